@@ -1,4 +1,4 @@
--- The laws of numbers, over whole numbers without bounds.
+-- The laws of numbers, over unbounded integers.
 use Rattle.std.proofs.Common.{◌≡◌, ℕ, zero, suc, ◌<◌, ℤ, pos, negsuc, neg_ℤ, ◌+ℤ◌, ◌-ℤ◌, ◌*ℤ◌, ◌≤ℤ◌, ◌<ℤ◌, Bool, true}
 use Rattle.std.proofs.Common.{false, arith, refl, subst, ◌≤◌, ◌&&◌, nat_le, if◌then◌else◌, List, Some, None}
 use Rattle.cs_base.specs.Decimals.{decimal_of, raw_of_decimal, is_numeral, whole_part, billionths_part, greatest_whole}
@@ -16,7 +16,7 @@ clamp_in_range z = (omega (arith, ints, clamps), omega (arith, ints, clamps))
 pub clamp_same : (z : ℤ) → IsRaw z → clamp z ≡ z
 clamp_same z h = omega (arith, ints, clamps)
 
--- what a quotient rounded down leaves
+-- the remainder of a quotient rounded down is the Euclidean remainder
 pub left_over : (n : ℤ) (d : ℕ) → 0 < d → n -ℤ (pos d *ℤ int_div_euclid n (pos d)) ≡ int_rem_euclid n (pos d)
 left_over (pos a) d h = omega (arith, ints)
 left_over (negsuc a) d h = omega (arith, ints)
@@ -25,7 +25,7 @@ neg_product : (d : ℕ) (q : ℤ) → negsuc d *ℤ q ≡ neg_ℤ (pos (suc d) *
 neg_product d (pos q) = omega (arith, ints)
 neg_product d (negsuc q) = omega (arith, ints)
 
--- by a divisor below 0, what is left is that of the two numbers negated, negated
+-- for a negative divisor, negating the remainder of the two negated numbers yields the remainder
 pub left_over_flipped : (x y : ℤ) → y <ℤ pos 0 → neg_ℤ (int_rem_euclid (neg_ℤ x) (neg_ℤ y)) ≡ remainder_of x y
 left_over_flipped x (pos d) h = absurd (omega (arith, ints))
 left_over_flipped x (negsuc d) h =
@@ -43,7 +43,7 @@ where_some : {A : Type 0} (b : Bool) (x d : A) → (if b then Some x else None) 
 where_some true x d h = (refl, cc)
 where_some false x d h = cc
 
--- the value of a decimal of a text needs no clamping
+-- the value of a decimal in a text needs no clamping
 pub decimal_in_range : (text : List ℕ) (d : Decimal) → decimal_of text ≡ Some d → IsRaw (raw_of_decimal d)
 decimal_in_range text d h =
     let made : Decimal = record { whole = whole_part text; billionths = billionths_part text } in

@@ -25,7 +25,7 @@ first_in n = grind (arith, nat_tests)
 one_on : (k n : ℕ) → nat_lt (1 + k) (suc n) ≡ nat_lt k n
 one_on k n = grind (arith, nat_tests)
 
--- the place lies in the text exactly where a `*/` does
+-- the index is less than the length if and only if the text has a `*/`
 pub close_is_there : (text : List ℕ) → nat_lt (close_of text) (length text) ≡ list_any closes (tails text)
 close_is_there [] = refl
 close_is_there (b ∷ rest) = by_test (closes (b ∷ rest))
@@ -39,14 +39,14 @@ two_bytes text h =
     let long = ap length (front_is (codes "*/") text h) ∙ length-append (codes "*/") (drop 2 text) in
     omega (arith, long)
 
--- both bytes of the first `*/` lie in the text
+-- both bytes of the first `*/` are within the text
 pub close_fits : (text : List ℕ) → close_of text < length text → close_of text + 2 ≤ length text
 close_fits [] l = absurd (omega arith)
 close_fits (b ∷ rest) l = by_test (closes (b ∷ rest))
     (λ h. omega (arith, close_at_once b rest h, two_bytes (b ∷ rest) h))
     (λ h. let is = close_later b rest h in let more = close_fits rest (omega (arith, is)) in omega (arith, is, more))
 
--- one byte on
+-- if no `*/` begins at index `at`, the first one is found from the next index on
 pub close_next : (text : List ℕ) (at : ℕ) → at < length text → closes (drop at text) ≡ false
     → close_of (drop at text) ≡ 1 + close_of (drop (at + 1) text)
 close_next text at l h =
@@ -61,7 +61,7 @@ not_there : (text : List ℕ) → length text ≤ close_of text → list_any clo
 not_there text l = let e : nat_lt (close_of text) (length text) ≡ false =
     grind (arith, nat_tests, l) in sym (close_is_there text) ∙ e
 
--- a comment that begins with `/*`, closed or not
+-- the length of a comment that begins with `/*`, closed or not
 abbrev pub block_len_of : List ℕ → ℕ
 block_len_of text = if not (list_any closes (tails (drop 2 text))) then length text else close_of (drop 2 text) + 4
 

@@ -1,4 +1,4 @@
--- The value of digits, read from the left.
+-- The value of digits, read from left to right.
 use Rattle.std.proofs.Common.{◌≡◌, ℕ, ◌+◌, ◌-◌, ◌*◌, ◌^◌, ◌<◌, ◌≤◌, min, Bool, true, List, [], ◌∷◌, length, take}
 use Rattle.std.proofs.Common.{get_or, arith, inl, inr, ap, sym, ◌∙◌, lit<}
 use Rattle.std.specs.{List.list_all, Char.is_ascii_digit, Char.digit_value, Str.Parse.digits_value, Str.Parse.AllDigits}
@@ -24,7 +24,7 @@ pub list_all-take : (n : ℕ) (p : ℕ → Bool) (xs : List ℕ) → list_all p 
 list_all-take n p xs h =
     list_all-from_AllPass p (take n xs) (All-take (λ x. p x ≡ true) n xs (AllPass-from_list_all p xs h))
 
--- one digit more, in arithmetic that stops at m
+-- appending a digit commutes with capping at m
 capped : (m v d : ℕ) → min (min (min v m * 10) m + d) m ≡ min (v * 10 + d) m
 capped m v d = omega arith
 
@@ -52,7 +52,7 @@ below_ten_to n ds h l =
     rw (length-take-le n ds l) at
     (digits_value-lt 10 (take n ds) (all_digits (take n ds) (list_all-take n is_ascii_digit ds h)))
 
--- n digits of nine: their value, moved to the place of the ninth
+-- the value of n of nine digits, scaled to nine digits, has at most nine digits
 pub scaled : (v n : ℕ) → n ≤ 9 → v < 10 ^ n → v * 10 ^ (9 - n) < 10 ^ 9
 scaled v n l h =
     let whole : 10 ^ n * 10 ^ (9 - n) ≡ 10 ^ 9 =

@@ -1,4 +1,4 @@
--- A quotient that is guessed by a product with the divisor's inverse.
+-- A quotient that is guessed with a product by the divisor's inverse.
 use Rattle.std.proofs.Common.{◌≡◌, ℕ, ◌+◌, ◌-◌, ◌*◌, ◌/◌, ◌%◌, ◌^◌, ◌<◌, ◌≤◌, ℤ, pos, negsuc, ◌*ℤ◌, unsigned_abs, ◌-ℤ◌}
 use Rattle.std.proofs.Common.{FitsSigned, of_z, to_z, w64, ap, sym, ◌∙◌, subst, arith}
 use Rattle.std.proofs.lemmas.Int.{fits_signed_from_abs, ints, to_z-of_z, unsigned_abs-mul}
@@ -12,7 +12,7 @@ once_more k d =
     let same : d * k ≡ k * d = mul_comm d k in
     omega (arith, parts, same)
 
--- the inverse of a number, rounded up, is at most one more
+-- the inverse of a number, rounded up, exceeds the exact inverse by at most one unit
 pub inverse_near : (size : ℕ) → (18446744073709551615 / size + 1) * size ≤ 18446744073709551616 + size
 inverse_near size =
     let k : ℕ = 18446744073709551615 / size in
@@ -29,13 +29,13 @@ inverse_fits size some =
     let least : k * 3 ≤ k * size = mul-le k 3 k size (omega arith) some in
     omega (arith, parts, least)
 
--- a quotient rounded down, times the divisor, is no further from 0 than the number by more than the divisor
+-- a quotient rounded down, times the divisor, exceeds the number by at most the divisor in absolute value
 floor_size : (z : ℤ) → unsigned_abs (floor_div z (pos 18446744073709551616)) * 18446744073709551616
     ≤ unsigned_abs z + 18446744073709551616
 floor_size (pos a) = omega (arith, ints)
 floor_size (negsuc a) = omega (arith, ints)
 
--- a guess times the divisor is little more than the number
+-- the guess times the divisor is only a little greater than the number in absolute value
 pub guess_small : (n inverse value guess : ℤ) → unsigned_abs n ≤ 2 ^ 61 → unsigned_abs value < 2 ^ 48
     → IsInverse value inverse
     → guess ≡ floor_div (n *ℤ inverse) (pos 18446744073709551616) → unsigned_abs (guess *ℤ value) ≤ 2 ^ 61 + 2 ^ 49
@@ -64,7 +64,7 @@ guess_small n inverse value guess few low near is =
     let size_of : unsigned_abs (guess *ℤ value) ≡ g * d = unsigned_abs-mul guess value in
     omega (arith, size_of, whole, more, part, low)
 
--- what a guess leaves fits into 64 bits, and the product on the way too
+-- the remainder of a guess fits into 64 bits, and so does the product with which it is computed
 module _ (n guess value : ℤ) (few : unsigned_abs n ≤ 2 ^ 61)
     (near : unsigned_abs (guess *ℤ value) ≤ 2 ^ 61 + 2 ^ 49) where
   pub rest_fits : FitsSigned w64 (n -ℤ (guess *ℤ value))

@@ -1,4 +1,4 @@
--- The lines of a text, one by one: the first, and those after it; and their numbers.
+-- The lines of a text, one by one: the first line and the lines after it, with their numbers.
 use Rattle.std.proofs.Common.{◌≡◌, ℕ, suc, ◌+◌, ◌<◌, true, false, List, [], ◌∷◌, ◌++◌, length, drop, take, count_by}
 use Rattle.std.proofs.Common.{arith, ap, sym, ◌∙◌, refl, subst}
 use Rattle.std.specs.List.{All, prefix_len}
@@ -8,6 +8,7 @@ use Rattle.cs_base.specs.Lines.{Line, is_feed, is_line_byte, line, line_after, l
 use Rattle.cs_base.specs.Lines.{next_len}
 use Rattle.cs_base.proofs.{Tests.by_test, Texts.count_by-append}
 
+-- the length of a text's first line without its line feed
 abbrev pub line_len : List ℕ → ℕ
 line_len text = prefix_len is_line_byte text
 
@@ -25,7 +26,7 @@ lines_more : (n at b : ℕ) (rest : List ℕ) → is_feed b ≡ false
     → lines_from n at (b ∷ rest) ≡ with_byte n at b (lines_from n (at + 1) rest)
 lines_more n at b rest h = rw h refl
 
--- the first line, with k bytes, and those after it, which begin m bytes on
+-- the first line, which has k bytes, and the lines after it, which begin m bytes later
 abbrev pub Cut : ℕ → ℕ → List ℕ → ℕ → ℕ → Type 0
 Cut n at text k m = lines_from n at text ≡ line n at (take k text) ∷ lines_from (n + 1) (at + m) (drop m text)
 
@@ -56,7 +57,7 @@ cut_at n at (b ∷ rest) l = one_line n at b rest
 
 -- ---- the numbers of lines
 
--- a line of a text has the number of the line on which its first byte stands
+-- a line of a text has the number of the line on which its first byte is found
 abbrev IsNumbered : ℕ → List ℕ → Line → Type 0
 IsNumbered first text l = l.number ≡ line_after first (take l.at text)
 
@@ -69,7 +70,7 @@ no_feed b h = rw h refl
 abbrev AllNumbered : ℕ → List ℕ → List Line → Type 0
 AllNumbered first text ls = All (IsNumbered first text) ls
 
--- lines behind one byte more, by those of the text cut after it
+-- the numbers of lines after one more byte, if they hold for the text cut after that byte
 moved : (first : ℕ) (before : List ℕ) (b : ℕ) (rest : List ℕ) (n : ℕ) → line_after first (before ++ b ∷ []) ≡ n
     → AllNumbered first ((before ++ b ∷ []) ++ rest)
     (lines_from (line_after first (before ++ b ∷ [])) (length (before ++ b ∷ [])) rest)
@@ -79,7 +80,7 @@ moved first before b rest n e all =
     (subst (λ at. AllNumbered first ((before ++ b ∷ []) ++ rest) (lines_from n at rest)) (length-append before (b ∷ []))
     (subst (λ k. AllNumbered first ((before ++ b ∷ []) ++ rest) (lines_from k (length (before ++ b ∷ [])) rest)) e all))
 
--- the line that begins behind a text
+-- the line that begins after a text
 line_here : (first : ℕ) (before rest bytes : List ℕ)
     → IsNumbered first (before ++ rest) (line (line_after first before) (length before) bytes)
 line_here first before rest bytes = ap (line_after first) (sym (take_at before rest (length before) refl))
@@ -116,13 +117,14 @@ lines_numbered first text =
     let none : line_after first [] ≡ first = omega arith in
     subst (λ n. AllNumbered first text (lines_from n 0 text)) none (numbered first [] text)
 
--- ---- one line after the other
+-- ---- one line after another
 
--- the next line, if there is one, begins behind a line and its line feed
+-- the next line, if there is one, begins after this line and its line feed
 abbrev pub Leads : Line → List Line → Type 0
 Leads l [] = Unit {0}
 Leads l (m ∷ ls) = (m.at ≡ l.at + length l.bytes + 1) × (m.number ≡ l.number + 1)
 
+-- each line leads to the next one
 abbrev pub Chained : List Line → Type 0
 Chained [] = Unit {0}
 Chained (l ∷ ls) = Leads l ls × Chained ls

@@ -21,7 +21,7 @@ rate_at-how_often rate.Init = refl
 rate_at-how_often rate.Control = refl
 rate_at-how_often rate.Audio = refl
 
--- rates that change equally often are one
+-- rates that change equally often are the same
 pub as_often : (r s : Rate) → how_often r ≡ how_often s → r ≡ s
 as_often r s e = sym (rate_at-how_often r) ∙ ap rate_at e ∙ rate_at-how_often s
 
@@ -54,7 +54,7 @@ res_at-of (res.Control n) = refl
 res_at-of (res.Sound n) = refl
 res_at-of (res.Table n) = refl
 
--- a resource is known by its kind and its number
+-- resources with the same kind and number are the same
 pub kind_and_number : (r s : Res) → res_kind r ≡ res_kind s → res_number r ≡ res_number s → r ≡ s
 kind_and_number r s k n =
     sym (res_at-of r) ∙ ap (λ x. res_at x (res_number r)) k ∙ ap (res_at (res_kind s)) n ∙ res_at-of s

@@ -1,4 +1,4 @@
--- Line feeds and fronts of texts.
+-- Line feeds and prefixes of texts.
 use Rattle.std.proofs.Common.{◌≡◌, ℕ, ◌+◌, ◌-◌, ◌≤◌, Bool, true, List, ◌++◌, length, take, drop, count_by, nat_eq}
 use Rattle.std.proofs.Common.{arith, ap, sym, ◌∙◌, refl, if◌then◌else◌}
 use Rattle.std.proofs.lemmas.{Bool.Decides.Decides-eqb, Slice.Eq.starts_is, List.Sums.sum_by-append}
@@ -9,14 +9,14 @@ pub count_by-append : {A : Type 0} (p : A → Bool) (xs ys : List A)
     → count_by p (xs ++ ys) ≡ count_by p xs + count_by p ys
 count_by-append p xs ys = sum_by-append (λ x. if p x then 1 else 0) xs ys
 
--- a text that begins with a front is that front and the rest
+-- a text that begins with a prefix is the prefix followed by the rest
 pub front_is : (front text : List ℕ) → begins_with front text ≡ true → text ≡ front ++ drop (length front) text
 front_is front text h = (starts_is {E = nat_eq} Decides-eqb text front (begins_with front text) refl).0 h
 
 pub front_tests : (front text after : List ℕ) → text ≡ front ++ after → begins_with front text ≡ true
 front_tests front text after e = (starts_is {E = nat_eq} Decides-eqb text front (begins_with front text) refl).1 after e
 
--- the line of a later place: that of an earlier one, and the line feeds between
+-- the line number at a later index is the line number at an earlier one plus the line feeds between them
 pub line_number : (first : ℕ) (text : List ℕ) (from to line feeds : ℕ) → from ≤ to
     → line ≡ line_after first (take from text) → feeds ≡ count_by is_feed (take (to - from) (drop from text))
     → line + feeds ≡ line_after first (take to text)

@@ -3,22 +3,24 @@ use Rattle.std.specs.Prelude.{ℕ, Bool, List, [], ◌∷◌, ◌+◌, ◌&&◌,
 use Rattle.std.specs.List.{list_any, position_or_len, prefix_len}
 use Rattle.cs_base.specs.Lines.{begins_with, is_line_byte}
 
--- a text from each of its bytes on: the whole, the whole without its first byte, and so on
+-- all nonempty suffixes of a text, the longest first
 abbrev pub tails : List ℕ → List (List ℕ)
 tails [] = []
 tails (b ∷ rest) = (b ∷ rest) ∷ tails rest
 
--- whether `*/` stands at the front of a text
+-- whether a text begins with `*/`
 abbrev pub closes : List ℕ → Bool
 closes text = begins_with (codes "*/") text
 
--- the place of the first `*/` of a text, or its length where it has none
+-- the index of the first `*/` in a text, or the text's length if there is none
 abbrev pub close_of : List ℕ → ℕ
 close_of text = position_or_len closes (tails text)
 
+-- whether a text begins with `;` or `//`
 abbrev pub begins_line_comment : List ℕ → Bool
 begins_line_comment text = begins_with (codes ";") text || begins_with (codes "//") text
 
+-- whether a text begins with `/*`
 abbrev pub begins_block_comment : List ℕ → Bool
 begins_block_comment text = begins_with (codes "/*") text
 
@@ -26,12 +28,12 @@ begins_block_comment text = begins_with (codes "/*") text
 abbrev pub begins_comment : List ℕ → Bool
 begins_comment text = begins_line_comment text || begins_block_comment text
 
--- a comment from `/*` on that no `*/` after it closes
+-- whether a text begins with a `/*` that is never closed by a `*/`
 abbrev pub is_open_comment : List ℕ → Bool
 is_open_comment text = begins_block_comment text && not (list_any closes (tails (drop 2 text)))
 
--- how many bytes at the front of a text are a comment: none, the rest of the line, all up to and with the next `*/`,
--- or the whole text
+-- the length of the comment at the start of a text: 0 if there is none, the rest of the line, everything
+-- through the next `*/`, or the entire text
 abbrev pub comment_len : List ℕ → ℕ
 comment_len text =
     if begins_line_comment text then prefix_len is_line_byte text

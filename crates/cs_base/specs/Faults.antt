@@ -1,4 +1,4 @@
--- The kinds of faults by number and name, and faults told as refusals.
+-- The numbers and names of the kinds of fault, and how faults become refusals.
 use Rattle.std.specs.Prelude.{ℕ, List, Result, Ok, Err, codes}
 use Rattle.cs_base.specs.{declared.fault.Or.Or, declared.limit.Limit.Limit, declared.refusal.Refusal.Refusal}
 use Rattle.cs_base.specs.{declared.fault.CsdKind.CsdKind, declared.fault.OrcKind.OrcKind}
@@ -9,7 +9,7 @@ use Rattle.cs_base.specs.declared.fault.CsdKind.TheVariants as csd
 use Rattle.cs_base.specs.declared.fault.OrcKind.TheVariants as orc
 use Rattle.cs_base.specs.declared.fault.ScoreKind.TheVariants as score
 
--- the number of a kind of fault of an orchestra, as a refusal prints it
+-- the number of a kind of fault of an orchestra, which is printed in a refusal
 abbrev pub orc_kind_number : OrcKind → ℕ
 orc_kind_number orc.BadByte = 1
 orc_kind_number orc.BadToken = 2
@@ -35,7 +35,7 @@ orc_kind_number orc.OpcodeTwice = 21
 orc_kind_number orc.XinXout = 22
 orc_kind_number orc.MissingEndop = 23
 
--- its name, as a refusal prints it
+-- the name of a kind of fault of an orchestra, which is printed in a refusal
 abbrev pub orc_kind_name : OrcKind → List ℕ
 orc_kind_name orc.BadByte = codes "BadByte"
 orc_kind_name orc.BadToken = codes "BadToken"
@@ -74,7 +74,7 @@ score_kind_number score.TableResized = 8
 score_kind_number score.NegativeTime = 9
 score_kind_number score.NotInProfile = 10
 
--- its name
+-- the name of a kind of fault of a score
 abbrev pub score_kind_name : ScoreKind → List ℕ
 score_kind_name score.BadStatement = codes "BadStatement"
 score_kind_name score.BadNumber = codes "BadNumber"
@@ -87,23 +87,23 @@ score_kind_name score.TableResized = codes "TableResized"
 score_kind_name score.NegativeTime = codes "NegativeTime"
 score_kind_name score.NotInProfile = codes "NotInProfile"
 
--- the number of a kind of fault of the tags of a file with both texts
+-- the number of a kind of fault in the tags of a file that contains both texts
 abbrev pub csd_kind_number : CsdKind → ℕ
 csd_kind_number csd.MissingTag = 1
 csd_kind_number csd.SectionTwice = 2
 csd_kind_number csd.NotInProfile = 3
 
--- its name
+-- the name of a kind of fault in the tags of a file that contains both texts
 abbrev pub csd_kind_name : CsdKind → List ℕ
 csd_kind_name csd.MissingTag = codes "MissingTag"
 csd_kind_name csd.SectionTwice = codes "SectionTwice"
 csd_kind_name csd.NotInProfile = codes "NotInProfile"
 
--- a limit that no line of a text passes
+-- the refusal for a limit that no line of a text exceeds
 abbrev pub passed : Limit → Refusal
 passed limit = refusal.Limit (record { limit = limit; line = 0 })
 
--- a fault told as another; out of memory stays what it is
+-- converts the fault with `told`; out of memory is unchanged
 abbrev pub or_by : {F G : Type 0} → (F → G) → Or F → Or G
 or_by told (or.Fault f) = or.Fault (told f)
 or_by told or.OutOfMemory = or.OutOfMemory

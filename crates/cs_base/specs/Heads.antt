@@ -1,9 +1,9 @@
--- What a piece's header says.
+-- The settings in a piece's header.
 use Rattle.std.specs.Prelude.{ℕ, ℤ}
 use Rattle.cs_base.specs.declared.head.Head.{Head}
 
--- What holds for a whole piece: frames a second, frames a control cycle, channels, and the value of full scale in
--- 65,536ths. Nothing is said of their ranges: a text is judged by this.
+-- The settings that apply to an entire piece: frames per second, frames per control cycle, channels, and full
+-- scale in 65,536ths. Their ranges are not stated here: the rules for texts are defined with this record.
 pub record Header : Type 0 where
   pub sr : ℕ
   pub ksmps : ℕ

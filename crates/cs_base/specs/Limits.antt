@@ -1,98 +1,98 @@
--- The stated limits of the profile, by name: the greatest count that each allows, and its number. And the bounds of the
--- language, which a text that passes them breaks as a rule.
+-- The stated limits of the profile by name: the greatest count that each allows, and its number. Also the
+-- bounds of the language, which are rules: a text that exceeds one has a fault.
 use Rattle.std.specs.Prelude.{ℕ}
 use Rattle.cs_base.specs.declared.limit.Limit.{Limit}
 use Rattle.cs_base.specs.declared.limit.Limit.TheVariants as limit
 
--- bytes of an orchestra
+-- most bytes of an orchestra
 abbrev pub most_orchestra_bytes : ℕ
 most_orchestra_bytes = 1048576
 
--- bytes of a score
+-- most bytes of a score
 abbrev pub most_score_bytes : ℕ
 most_score_bytes = 4194304
 
--- different instrument numbers of an orchestra
+-- most different instrument numbers of an orchestra
 abbrev pub most_instruments : ℕ
 most_instruments = 200
 
--- statements of one instrument, those in its `if`s counted too
+-- most statements of one instrument, including the statements in its `if`s
 abbrev pub most_statements : ℕ
 most_statements = 2000
 
--- notes that are active in one control cycle
+-- most notes that are active in one control cycle
 abbrev pub most_notes : ℕ
 most_notes = 512
 
--- different table numbers of a score
+-- most different table numbers of a score
 abbrev pub most_tables : ℕ
 most_tables = 300
 
--- `i` and `f` statements of a score, stops and `f 0` among them
+-- most `i` and `f` statements of a score, including stops and `f 0`
 abbrev pub most_events : ℕ
 most_events = 100000
 
--- bytes of the samples of a sound file
+-- most bytes of samples in a sound file
 abbrev pub most_wav_bytes : ℕ
 most_wav_bytes = 2147483648
 
--- words of all shared resources together
+-- most words of all shared resources together
 abbrev pub most_words : ℕ
 most_words = 65536
 
--- samples of all delay lines of one note
+-- most samples of all delay lines of one note
 abbrev pub most_delay_samples : ℕ
 most_delay_samples = 262144
 
--- shared resources
+-- most shared resources
 abbrev pub most_resources : ℕ
 most_resources = 4096
 
--- notes that a performance keeps of those that other notes ask for
+-- most notes that a performance stores after other notes scheduled them
 abbrev pub most_asks : ℕ
 most_asks = 100000
 
--- bytes of one file with orchestra and score
+-- most bytes of one file with orchestra and score
 abbrev pub most_csd_bytes : ℕ
 most_csd_bytes = 5242880
 
--- `if`s around a statement
+-- most `if`s around a statement
 abbrev pub most_nested_ifs : ℕ
 most_nested_ifs = 100
 
--- tokens of a line of an orchestra
+-- most tokens on a line of an orchestra
 abbrev pub most_line_tokens : ℕ
 most_line_tokens = 1000
 
--- the number of an instrument
+-- the greatest instrument number
 abbrev pub greatest_instrument : ℕ
 greatest_instrument = 32767
 
--- the number of a p-field in an orchestra, and the fields of a statement of a score
+-- the greatest p-field number in an orchestra, and the most fields of a statement in a score
 abbrev pub greatest_field : ℕ
 greatest_field = 100
 
--- a size that `zakinit` takes
+-- the greatest size that `zakinit` accepts
 abbrev pub greatest_zak_size : ℕ
 greatest_zak_size = 1000
 
--- frames a second
+-- the greatest number of frames per second
 abbrev pub greatest_sr : ℕ
 greatest_sr = 192000
 
--- frames a control cycle
+-- the greatest number of frames per control cycle
 abbrev pub greatest_ksmps : ℕ
 greatest_ksmps = 4096
 
--- channels
+-- most channels
 abbrev pub most_channels : ℕ
 most_channels = 16
 
--- the number of a table
+-- the greatest table number
 abbrev pub greatest_table : ℕ
 greatest_table = 65535
 
--- the number of a limit, as a refusal prints it
+-- the number of a limit, which is printed in a refusal
 abbrev pub limit_number : Limit → ℕ
 limit_number limit.OrchestraBytes = 1
 limit_number limit.ScoreBytes = 2

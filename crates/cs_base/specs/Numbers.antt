@@ -1,4 +1,4 @@
--- The numbers of the profile, whole 65,536ths, and each operation as a formula over whole numbers without bounds.
+-- The numbers of the profile, in 65,536ths, and each operation as a formula over unbounded integers.
 use Rattle.std.specs.Prelude.{ℤ, List, [], ◌∷◌, pos, negsuc, ◌≤ℤ◌, ◌+ℤ◌, ◌-ℤ◌, ◌*ℤ◌, neg_ℤ, suc, if◌then◌else◌}
 use Rattle.std.specs.{Prelude.unsigned_abs, Ordering.int_eq}
 use Rattle.std.specs.Int.{int_max, int_min, int_div_euclid, is_positive, is_negative}
@@ -11,11 +11,11 @@ least = negsuc 140737488355327
 abbrev pub greatest : ℤ
 greatest = pos 140737488355327
 
--- what a number may have as its raw value
+-- the range of raw values
 abbrev pub IsRaw : ℤ → Type 0
 IsRaw z = (least ≤ℤ z) × (z ≤ℤ greatest)
 
--- a whole number brought into that range
+-- an integer, clamped to that range
 abbrev pub clamp : ℤ → ℤ
 clamp z = int_max least (int_min z greatest)
 
@@ -23,12 +23,12 @@ clamp z = int_max least (int_min z greatest)
 abbrev pub one : ℤ
 one = pos 65536
 
--- n / d rounded down, for a d other than 0
+-- n / d rounded down, if d is not 0
 abbrev pub floor_div : ℤ → ℤ → ℤ
 floor_div n (pos d) = int_div_euclid n (pos d)
 floor_div n (negsuc d) = int_div_euclid (neg_ℤ n) (pos (suc d))
 
--- the sum of whole numbers, without bounds
+-- the sum of integers, without bounds
 abbrev pub total : List ℤ → ℤ
 total [] = pos 0
 total (z ∷ zs) = z +ℤ total zs
@@ -41,31 +41,31 @@ sum_of x y = clamp (x +ℤ y)
 abbrev pub difference_of : ℤ → ℤ → ℤ
 difference_of x y = clamp (x -ℤ y)
 
--- x * y, rounded down to whole 65,536ths
+-- x * y, rounded down to 65,536ths
 abbrev pub product_of : ℤ → ℤ → ℤ
 product_of x y = clamp (floor_div (x *ℤ y) one)
 
--- x / 0: the greatest number, the least or 0, by the sign of x
+-- x / 0: the greatest number, the least number or 0, by the sign of x
 abbrev pub quotient_by_zero : ℤ → ℤ
 quotient_by_zero x = if is_positive x then greatest else (if is_negative x then least else pos 0)
 
--- x / y, rounded down to whole 65,536ths
+-- x / y, rounded down to 65,536ths
 abbrev pub quotient_of : ℤ → ℤ → ℤ
 quotient_of x y = if int_eq y (pos 0) then quotient_by_zero x else clamp (floor_div (x *ℤ one) y)
 
--- what x / y rounded down to a whole number leaves of x; by 0 it is 0
+-- the remainder of x / y rounded down to an integer; 0 if y is 0
 abbrev pub remainder_of : ℤ → ℤ → ℤ
 remainder_of x y = if int_eq y (pos 0) then pos 0 else x -ℤ (y *ℤ floor_div x y)
 
--- the whole number at or below x
+-- the greatest integer that is at most x
 abbrev pub whole_below : ℤ → ℤ
 whole_below x = floor_div x one
 
--- that number, as a number of the profile
+-- the greatest integer that is at most x, as a number of the profile
 abbrev pub floor_of : ℤ → ℤ
 floor_of x = whole_below x *ℤ one
 
--- x without its fraction: rounded down where x is 0 or more, and up where it is less
+-- x without its fraction: rounded down if x is 0 or greater, and up if it is negative
 abbrev pub int_of : ℤ → ℤ
 int_of x = if is_negative x then clamp (neg_ℤ (floor_of (neg_ℤ x))) else floor_of x
 
@@ -73,6 +73,6 @@ int_of x = if is_negative x then clamp (neg_ℤ (floor_of (neg_ℤ x))) else flo
 abbrev pub frac_of : ℤ → ℤ
 frac_of x = x -ℤ int_of x
 
--- x without its sign
+-- the absolute value of x
 abbrev pub abs_of : ℤ → ℤ
 abs_of x = clamp (pos (unsigned_abs x))

@@ -1,4 +1,4 @@
-// Comments, as both languages have them.
+// Comments, which are the same in both languages.
 ghost use Rattle.std.specs.Prelude.{◌≡◌, ◌≤◌, ◌<◌, ◌+◌, length, drop, true, not, if◌then◌else◌};
 ghost use Rattle.std.specs.List.{list_any};
 ghost use Rattle.cs_base.specs.Comments.{tails, closes, close_of, begins_line_comment, begins_block_comment};
@@ -13,15 +13,16 @@ pub fn begins_comment(text: &[u8]) -> bool
     begins_line_comment(text) || begins_block_comment(text)
 }
 
-/// Whether a text begins with a `/*` that no `*/` after it closes.
+/// Whether a text begins with a `/*` that is never closed by a `*/`.
 pub fn is_open_comment(text: &[u8]) -> bool
     ensures { result ≡ is_open_comment text.now }
 {
     begins_block_comment(text) && !has_close(&text[2..])
 }
 
-/// How many bytes at the front of a text are a comment, 0 where none begins: after `;` or `//` those before the line
-/// feed, after `/*` those up to and with the next `*/`, or all where none comes.
+/// Returns the length in bytes of the comment at the start of a text, or 0 if no comment begins there. A
+/// comment from `;` or `//` ends before the line feed; a comment from `/*` includes the next `*/`, or runs to
+/// the end of the text if there is none.
 pub fn comment_len(text: &[u8]) -> usize
     ensures value { result ≡ comment_len text.now }
     ensures within { result ≤ length text.now }
@@ -48,7 +49,7 @@ fn begins_block_comment(text: &[u8]) -> bool
     text.starts_with(b"/*")
 }
 
-// The bytes of a comment that begins with `/*`.
+// The length in bytes of a comment that begins with `/*`.
 fn block_len(text: &[u8]) -> usize
     requires { 2 ≤ length text.now }
     ensures value { result ≡ (if not (list_any closes (tails (drop 2 text.now))) then length text.now
@@ -69,7 +70,7 @@ fn has_close(text: &[u8]) -> bool
     close_of(text) < text.len()
 }
 
-// The place of the first `*/`, or the length where there is none.
+// The index of the first `*/`, or the length of the text if there is none.
 fn close_of(text: &[u8]) -> usize
     ensures value { result ≡ close_of text.now }
     ensures within { result ≤ length text.now }

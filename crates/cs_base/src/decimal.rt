@@ -1,4 +1,4 @@
-// Decimals as a text writes them: digits with a point among or beside them, and no sign.
+// Decimals in a text: digits with at most one point before, among or after them, and no sign.
 ghost use Rattle.std.specs.Prelude.{◌≡◌, ◌*◌, ◌^◌, ◌-◌, min, take, length, true, Some, None};
 ghost use Rattle.std.specs.{List.list_all, List.position, Char.is_ascii_digit, Str.Parse.digits_value};
 ghost use Rattle.cs_base.specs.{Numbers.clamp, Decimals.millionths_of};
@@ -6,10 +6,11 @@ ghost use Rattle.cs_base.specs.Decimals.{is_point, before_point, after_point, de
 
 use crate::{Num, ONE};
 
-/// The greatest whole part of a decimal.
+// The greatest integer part of a decimal.
 const GREATEST_WHOLE: u32 = 2_147_483_647;
 
-/// A decimal without a sign: its whole part, at most 2,147,483,647 as `read_decimal` gives it, and its billionths.
+/// A decimal without a sign: its integer part, which `read_decimal` limits to 2,147,483,647, and its fraction
+/// in billionths.
 #[derive(Clone, Copy, Debug, PartialEq, Eq)]
 pub struct Decimal {
     pub whole: u32,
@@ -17,7 +18,7 @@ pub struct Decimal {
 }
 
 impl Decimal {
-    /// The number, rounded down to whole 65,536ths and brought into range.
+    /// Returns the number, rounded down to a multiple of 1/65,536 and clamped to the range of numbers.
     pub fn num(self) -> Num
         ensures { result ≡ clamp (raw_of_decimal self) }
     {
@@ -26,7 +27,7 @@ impl Decimal {
         Num::of_raw(whole * ONE + billionths * ONE / 1_000_000_000)
     }
 
-    /// The value in millionths, rounded down.
+    /// Returns the value in millionths, rounded down.
     pub fn millionths(self) -> u64
         ensures { result ≡ millionths_of self }
     {
@@ -34,8 +35,9 @@ impl Decimal {
     }
 }
 
-/// Reads a decimal: digits, digits and a point, digits with a point and digits, or a point and digits. Digits past the
-/// ninth after the point are dropped. `None` where the text is no such thing, or its whole part is above 2,147,483,647.
+/// Reads a decimal: digits, optionally with one point before, among or after them. Digits after the ninth
+/// decimal place are dropped. `None` if the text is not a decimal, or if its integer part exceeds
+/// 2,147,483,647.
 pub fn read_decimal(text: &[u8]) -> Option<Decimal>
     ensures { result ≡ decimal_of text.now }
 {
@@ -54,7 +56,7 @@ pub fn read_decimal(text: &[u8]) -> Option<Decimal>
     })
 }
 
-// What stands before the first point, and what after it.
+// The bytes before the first point, and the bytes after it.
 fn split_at_point(text: &[u8]) -> (&[u8], &[u8])
     ensures before { result.0.now ≡ before_point text.now }
     ensures after { result.1.now ≡ after_point text.now }
@@ -65,7 +67,7 @@ fn split_at_point(text: &[u8]) -> (&[u8], &[u8])
     }
 }
 
-// The place of the first point.
+// The index of the first point.
 fn point_of(text: &[u8]) -> Option<usize>
     ensures { result ≡ position is_point text.now }
 {
@@ -78,7 +80,7 @@ fn all_digits(text: &[u8]) -> bool
     text.iter().all(|byte| byte.is_ascii_digit())
 }
 
-// The value of digits, or the greatest u32 where it is greater.
+// The value of the digits, or the greatest u32 if the value exceeds it.
 fn value_of_digits(digits: &[u8]) -> u32
     requires { list_all is_ascii_digit digits.now ≡ true }
     ensures { result ≡ min (digits_value 10 digits.now) (2 ^ 32 - 1) }
@@ -92,7 +94,7 @@ fn value_of_digits(digits: &[u8]) -> u32
     value
 }
 
-// The first nine digits after a point, as billionths.
+// The first nine digits after a point, as a number of billionths.
 fn billionths_of_digits(digits: &[u8]) -> u32
     requires { list_all is_ascii_digit digits.now ≡ true }
     ensures { result ≡ digits_value 10 (take 9 digits.now) * 10 ^ (9 - length digits.now) }

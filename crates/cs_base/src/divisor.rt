@@ -1,10 +1,10 @@
-// A divisor that stays for many divisions: each is a product and a look whether that is right.
+// A divisor for many divisions: each division multiplies by an approximate inverse and checks the result.
 ghost use Rattle.std.specs.Prelude.{◌≡◌, ◌<◌, ◌≤◌, ◌+◌, ◌*◌, ◌^◌, true, pos, ◌≤ℤ◌, ◌<ℤ◌, ◌-ℤ◌, ◌*ℤ◌, unsigned_abs};
 ghost use Rattle.cs_base.specs.{Numbers.floor_div, inner.Inverses.IsInverse};
 
 use crate::number::times;
 
-/// A divisor from 1 to 2^48 - 1, and about how many 2^64ths its inverse is.
+/// A divisor from 1 to 2^48 - 1, with its approximate inverse in units of 2^-64.
 #[derive(Clone, Copy)]
 pub struct Divisor {
     value: i64,
@@ -15,7 +15,7 @@ pub struct Divisor {
 }
 
 impl Divisor {
-    /// The divisor of this value.
+    /// Returns the divisor with this value.
     pub fn of(value: i64) -> Divisor
         requires low { pos 1 ≤ℤ value }
         requires high { unsigned_abs value < 2 ^ 48 }
@@ -25,7 +25,7 @@ impl Divisor {
         Divisor { value, inverse }
     }
 
-    /// The quotient of a number by it, rounded down.
+    /// Returns `n` divided by the divisor, rounded down.
     #[inline(always)]
     pub fn divide(self, n: i64) -> i64
         requires { unsigned_abs n ≤ 2 ^ 61 }
@@ -40,8 +40,9 @@ impl Divisor {
     }
 }
 
-// How many 2^64ths the inverse of a number is, rounded up. Those of 1 and 2 don't fit, and by -1 no guess is right; so
-// the compiler knows no sign of an inverse, and multiplies by it in one instruction.
+// The inverse of a number in units of 2^-64, rounded up. The inverses of 1 and 2 don't fit into 64 bits; -1
+// takes their place: its guesses fail the check unless the dividend is 0, and `divide` then divides. Since an
+// inverse may therefore be negative, the compiler multiplies by it in one instruction.
 fn inverse_of(value: i64) -> i64
     requires { pos 1 ≤ℤ value }
     ensures { IsInverse value result }
@@ -61,7 +62,7 @@ fn rounded_up(size: u64) -> u64
     18_446_744_073_709_551_615 / size + 1
 }
 
-// How often 2^64 goes into a product: its upper word.
+// The product divided by 2^64, rounded down: its upper 64 bits.
 #[inline(always)]
 fn upper(n: i64, inverse: i64) -> i64
     requires { unsigned_abs n ≤ 2 ^ 61 }
@@ -78,8 +79,8 @@ fn whole(product: i128) -> i64
     (product >> 64) as i64
 }
 
-// Whether a guess, whose product with the divisor fits into 64 bits, is the quotient: what it leaves lies from 0 below
-// the divisor.
+// Whether `guess` is the quotient, given that its product with the divisor fits into 64 bits: the remainder
+// must be at least 0 and less than the divisor.
 #[inline(always)]
 fn is_quotient(n: i64, guess: i64, divisor: i64) -> bool
     requires n { unsigned_abs n ≤ 2 ^ 61 }
@@ -99,7 +100,7 @@ fn rest_of(n: i64, guess: i64, divisor: i64) -> i64
     n - guess * divisor
 }
 
-// Without its sign a number below 0 is greater than any divisor.
+// Whether a remainder is in range. Read as unsigned, a negative number is greater than any divisor.
 #[inline(always)]
 fn is_rest(rest: i64, divisor: i64) -> bool
     requires { pos 1 ≤ℤ divisor }

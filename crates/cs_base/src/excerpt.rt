@@ -1,11 +1,11 @@
-// A text in a file.
+// A text within a file.
 ghost use Rattle.std.specs.Prelude.{◌≡◌, ◌≤◌, ◌+◌};
 ghost use Rattle.cs_base.specs.{Limits.most_csd_bytes, Lines.excerpt, Lines.whole_file};
 
 use std::marker::Model;
 
-/// A text in a file, and the line of the file on which it begins: from 1 to 5,242,881, since a file has at most
-/// 5,242,880 bytes.
+/// A text within a file, with the line of the file on which it begins: from 1 to 5,242,881, since a file has
+/// at most 5,242,880 bytes.
 #[derive(Drop)]
 pub struct Excerpt<'a> {
     first_line: u32,
@@ -24,7 +24,7 @@ impl<'a> Model for Excerpt<'a> {
 }
 
 impl<'a> Excerpt<'a> {
-    /// A text that begins on this line of a file.
+    /// Returns the text `bytes`, which begins on line `first_line` of its file.
     pub fn new(first_line: u32, bytes: &'a [u8]) -> Excerpt<'a>
         requires { first_line ≤ most_csd_bytes + 1 }
         ensures { result ≡ excerpt first_line bytes.now }
@@ -32,14 +32,14 @@ impl<'a> Excerpt<'a> {
         Excerpt { first_line, bytes }
     }
 
-    /// A text that is a file of its own: it begins on line 1.
+    /// Returns a text that is an entire file, so that it begins on line 1.
     pub fn whole_file(bytes: &'a [u8]) -> Excerpt<'a>
         ensures { result ≡ whole_file bytes.now }
     {
         Excerpt::new(1, bytes)
     }
 
-    /// The line of the file on which the text begins.
+    /// Returns the line of the file on which the text begins.
     pub fn first_line(&self) -> u32
         ensures value { result ≡ self.now.first_line }
         ensures small { result ≤ most_csd_bytes + 1 }
@@ -47,7 +47,7 @@ impl<'a> Excerpt<'a> {
         self.first_line
     }
 
-    /// The text.
+    /// Returns the bytes of the text.
     pub fn bytes(&self) -> &'a [u8]
         ensures { result.now ≡ self.now.bytes }
     {

@@ -1,4 +1,4 @@
-// What a text is refused for: each fault has the line at which it stands and its one kind.
+// The faults for which a text is refused: each has a line and a kind.
 ghost use Rattle.std.specs.Prelude.{◌≡◌};
 ghost use Rattle.cs_base.specs.declared.fault.Or.TheVariants as or;
 ghost use Rattle.cs_base.specs.Faults.{csd_kind_number, csd_kind_name, orc_kind_number, orc_kind_name};
@@ -7,7 +7,7 @@ ghost use Rattle.cs_base.specs.Faults.{score_kind_number, score_kind_name};
 use std::alloc::{AllocError, AllocFailed};
 use thiserror::Error;
 
-/// Out of memory. No clause says when a call returns it.
+/// Out of memory. No clause states when a call returns it.
 #[derive(Clone, Copy)]
 pub struct OutOfMemory;
 
@@ -54,7 +54,7 @@ impl<F> From<OutOfMemory> for Or<F> {
     }
 }
 
-// The name of a variant of `$kind`, which is one of these.
+// The name of a variant of `$kind`, which must be one of the listed variants.
 macro_rules! variant_name {
     ($value:expr, $kind:ident: $($variant:ident)*) => {
         match $value {
@@ -63,7 +63,8 @@ macro_rules! variant_name {
     };
 }
 
-/// The kinds of fault of an orchestra: tokens find 1 to 4, grammar 5 to 11 and 20 to 23, rates and names 12 to 19.
+/// The kinds of fault of an orchestra: the tokenizer finds 1 to 4, the grammar finds 5 to 11 and 20 to 23,
+/// and the checks of rates and names find 12 to 19.
 #[derive(Clone, Copy, Debug, PartialEq, Eq)]
 pub enum OrcKind {
     BadByte = 1,
@@ -92,14 +93,14 @@ pub enum OrcKind {
 }
 
 impl OrcKind {
-    /// The kind's number, from 1 to 23, as a refusal prints it.
+    /// Returns the kind's number, from 1 to 23, which is printed in a refusal.
     pub fn number(self) -> u8
         ensures { result ≡ orc_kind_number self }
     {
         self as u8
     }
 
-    /// The kind's name, as a refusal prints it.
+    /// Returns the kind's name, which is printed in a refusal.
     pub fn name(self) -> &'static str
         ensures { result.now ≡ orc_kind_name self }
     {
@@ -128,14 +129,14 @@ pub enum ScoreKind {
 }
 
 impl ScoreKind {
-    /// The kind's number, from 1 to 10, as a refusal prints it.
+    /// Returns the kind's number, from 1 to 10, which is printed in a refusal.
     pub fn number(self) -> u8
         ensures { result ≡ score_kind_number self }
     {
         self as u8
     }
 
-    /// The kind's name, as a refusal prints it.
+    /// Returns the kind's name, which is printed in a refusal.
     pub fn name(self) -> &'static str
         ensures { result.now ≡ score_kind_name self }
     {
@@ -163,26 +164,26 @@ pub struct ScoreFault {
     pub kind: ScoreKind,
 }
 
-/// The kinds of fault of the tags of a file with both texts.
+/// The kinds of fault in the tags of a file that contains both texts.
 #[derive(Clone, Copy, Debug, PartialEq, Eq)]
 pub enum CsdKind {
-    /// The file ends before a tag that is still needed, or has no `<CsInstruments>`.
+    /// The file ends before a required tag, or has no `<CsInstruments>`.
     MissingTag = 1,
-    /// A section is opened that stood before.
+    /// A section is opened a second time.
     SectionTwice = 2,
-    /// A line between sections that is no tag of the profile.
+    /// A line between sections is not a tag of the profile.
     NotInProfile = 3,
 }
 
 impl CsdKind {
-    /// The kind's number, from 1 to 3, as a refusal prints it.
+    /// Returns the kind's number, from 1 to 3, which is printed in a refusal.
     pub fn number(self) -> u8
         ensures { result ≡ csd_kind_number self }
     {
         self as u8
     }
 
-    /// The kind's name, as a refusal prints it.
+    /// Returns the kind's name, which is printed in a refusal.
     pub fn name(self) -> &'static str
         ensures { result.now ≡ csd_kind_name self }
     {
@@ -194,7 +195,7 @@ impl CsdKind {
     }
 }
 
-/// The first broken rule of the tags of a file with both texts. Lines count from 1.
+/// The first broken rule of the tags of a file that contains both texts. Lines count from 1.
 #[derive(Clone, Copy, Debug, PartialEq, Eq)]
 pub struct CsdFault {
     pub line: u32,

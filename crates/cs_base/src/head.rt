@@ -1,19 +1,20 @@
-// What the header of an orchestra settles for a whole piece.
+// The settings in an orchestra's header.
 ghost use Rattle.std.specs.Prelude.{◌≤◌, pos, ◌<ℤ◌};
 ghost use Rattle.cs_base.specs.Limits.{greatest_ksmps, greatest_sr, most_channels};
 
 use crate::Num;
 
-/// What holds for a whole piece: frames a second, frames a control cycle, channels, and the value of full scale.
+/// The settings that apply to an entire piece: sample rate, frames per control cycle, channels, and full
+/// scale.
 #[derive(Clone, Copy)]
 pub struct Head {
-    /// Frames a second, from 1 to 192,000.
+    /// Frames per second, from 1 to 192,000.
     pub sr: u32,
-    /// Frames a control cycle, from 1 to 4,096.
+    /// Frames per control cycle, from 1 to 4,096.
     pub ksmps: u32,
-    /// Channels, from 1 to 16.
+    /// Number of channels, from 1 to 16.
     pub nchnls: u32,
-    /// The value of full scale, above 0.
+    /// The value of full scale, greater than 0.
     pub dbfs: Num,
     ghost sr_in_range: { (1 ≤ sr) × (sr ≤ greatest_sr) },
     ghost ksmps_in_range: { (1 ≤ ksmps) × (ksmps ≤ greatest_ksmps) },

@@ -1,5 +1,5 @@
-// What holds of the definitions for all numbers and texts, said once: calls that do nothing, whose contracts are the
-// laws.
+// Properties of the definitions that hold for all numbers and texts, each stated once: functions that do
+// nothing, and whose contracts are the laws.
 ghost use Rattle.std.specs.Prelude.{◌≡◌, ◌↔◌, ◌⊎◌, true, ℤ, pos, neg_ℤ, ◌+ℤ◌, ◌*ℤ◌, ◌≤ℤ◌, ◌<ℤ◌, ℕ, List, Some, None};
 ghost use Rattle.std.specs.{Prelude.codes, Prelude.◌++◌, Prelude.take, List.All};
 ghost use Rattle.cs_base.specs.{declared.decimal.Decimal.Decimal, Decimals.decimal_of, Decimals.raw_of_decimal};
@@ -9,7 +9,7 @@ ghost use Rattle.cs_base.specs.Numbers.{IsRaw, clamp, least, one, floor_div, sum
 ghost use Rattle.cs_base.specs.Numbers.{quotient_of, remainder_of, floor_of, int_of, frac_of, abs_of};
 ghost use Rattle.cs_base.specs.Rates.{same_rate, same_res, within, faster};
 
-/// Every result lies in the range of numbers, and a value of the range is its own `clamp`.
+/// Every result is in the range of numbers, and `clamp` leaves a value in range unchanged.
 pub fn results_in_range()
     ensures clamp { (z : ℤ) → IsRaw (clamp z) }
     ensures kept { (z : ℤ) → IsRaw z → clamp z ≡ z }
@@ -25,15 +25,16 @@ pub fn results_in_range()
     ensures decimal { (text : List ℕ) (d : Decimal) → decimal_of text ≡ Some d → IsRaw (raw_of_decimal d) }
 {}
 
-/// A quotient rounded down, and what it leaves: 0 or of the divisor's sign, and nearer to 0 than the divisor.
+/// A quotient is rounded down. A remainder is 0 or has the sign of the divisor, and is smaller than the
+/// divisor in absolute value.
 pub fn division_rounds_down()
     ensures rounded { (n d : ℤ) → pos 0 <ℤ d → ((d *ℤ floor_div n d) ≤ℤ n) × (n <ℤ ((d *ℤ floor_div n d) +ℤ d)) }
     ensures sign_above { (x y : ℤ) → pos 0 <ℤ y → (pos 0 ≤ℤ remainder_of x y) × (remainder_of x y <ℤ y) }
     ensures sign_below { (x y : ℤ) → y <ℤ pos 0 → (y <ℤ remainder_of x y) × (remainder_of x y ≤ℤ pos 0) }
 {}
 
-/// A number is its floor and a part from 0 below one; it is also its `int`, which lies between 0 and it, and its
-/// `frac`.
+/// A number is its floor plus a part that is at least 0 and less than one. It is also the sum of its `int`,
+/// which lies between 0 and the number, and its `frac`.
 pub fn parts_of_a_number()
     ensures floor { (x : ℤ) → (floor_of x ≤ℤ x) × (x <ℤ (floor_of x +ℤ one)) }
     ensures whole { (x : ℤ) → (n : ℤ) × (floor_of x ≡ n *ℤ one) }
@@ -43,7 +44,7 @@ pub fn parts_of_a_number()
     ensures int_and_frac { (x : ℤ) → int_of x +ℤ frac_of x ≡ x }
 {}
 
-/// `within` orders the rates, and `faster` is the greater of two in that order.
+/// `within` orders the rates, and `faster` returns the greater of two rates in that order.
 pub fn rates_are_ordered()
     ensures once { (r s : Rate) → within r s ≡ true → within s r ≡ true → r ≡ s }
     ensures chain { (r s t : Rate) → within r s ≡ true → within s t ≡ true → within r t ≡ true }
@@ -52,14 +53,14 @@ pub fn rates_are_ordered()
     ensures above_two { (r s : Rate) → (within r (faster r s) ≡ true) × (within s (faster r s) ≡ true) }
 {}
 
-/// The tests for the same rate and the same resource answer yes exactly where the two are equal.
+/// The tests for the same rate and for the same resource return true if and only if the two are equal.
 pub fn sameness_is_equality()
     ensures rate { (r s : Rate) → (same_rate r s ≡ true) ↔ (r ≡ s) }
     ensures resource { (r s : Res) → (same_res r s ≡ true) ↔ (r ≡ s) }
 {}
 
-/// Each line of a text has the number of the line on which its first byte stands, and places behind a text stand on
-/// the lines on which they stand in the whole.
+/// Each line of a text has the line number at which its first byte is found, and the line number after a text
+/// is the same whether it is counted in one step or in two.
 pub fn lines_are_those_of_the_file()
     ensures numbers { (first : ℕ) (text : List ℕ)
         → All (λ l. l.number ≡ line_after first (take l.at text)) (lines_of first text) }
@@ -67,7 +68,8 @@ pub fn lines_are_those_of_the_file()
         → line_after (line_after first before) text ≡ line_after first (before ++ text) }
 {}
 
-/// The examples of docs/MEANING.md and docs/LANGUAGE.md, computed by the definitions: a number n is `n *ℤ one`.
+/// The examples of docs/MEANING.md and docs/LANGUAGE.md, computed with the definitions: a number n is `n *ℤ
+/// one`.
 pub fn worked_examples()
     ensures third { quotient_of (neg_ℤ one) (pos 3 *ℤ one) ≡ neg_ℤ (pos 21846) }
     ensures left { remainder_of (neg_ℤ one) (pos 3 *ℤ one) ≡ pos 2 *ℤ one }

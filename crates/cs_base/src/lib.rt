@@ -1,15 +1,16 @@
-//! The bottom layer: what every other crate shares, each thing said once for code and definitions.
+//! The bottom layer: everything that all other crates share, each thing defined once for code and
+//! definitions.
 //!
-//! Its one contract: all arithmetic of the profile is `Num`'s, and each call is its formula over whole numbers without
-//! bounds, then `clamp`; a limit, a blank, a comment and the order of rates are what specs/ says they are. How `Num`
-//! computes, and how a decimal or a comment is read, may be changed without anyone above noticing; the definitions in
-//! specs/ may not.
+//! Its one contract: all arithmetic of the profile is done by `Num`, and the result of each call is its
+//! formula over unbounded integers, followed by `clamp`; specs/ defines limits, blanks, comments and the
+//! order of rates. How `Num` computes, and how a decimal or a comment is read, may change without anyone
+//! above noticing; the definitions in specs/ may not.
 //!
-//! In reading order: `number` (arithmetic), `divisor` (many quotients by one number), `laws` (what holds of the
-//! definitions, and worked examples), `decimal` (numbers as a text writes them), `excerpt` (a text in a file), `lines`
-//! and `comments` (what both languages have between their words), `fault`, `limit` and `refusal` (what a text is
-//! refused for), `head`, `resource` (rates, and what notes share), `per_rate`, `spaces`, `width` (the width of a
-//! sample), `items` (the one list type), `text`, `steps`.
+//! In reading order: `number` (arithmetic), `divisor` (many quotients with one divisor), `laws` (properties
+//! of the definitions, and worked examples), `decimal` (numbers in a text), `excerpt` (a text within a file),
+//! `lines` and `comments` (what may separate words in both languages), `fault`, `limit` and `refusal` (the
+//! reasons for refusing a text), `head`, `resource` (rates, and the resources that notes share), `per_rate`,
+//! `spaces`, `width` (the width of a sample), `items` (the one list type), `text`, `steps`.
 #![tactic(auto)]
 
 mod comments;

@@ -1,58 +1,58 @@
-// The stated limits of the profile: their numbers, and the greatest count that each allows. And the bounds of the
-// language, which a text that passes them breaks as a rule.
+// The stated limits of the profile: the number of each, and the greatest count that it allows. Also the
+// bounds of the language, which are rules: a text that exceeds one has a fault.
 ghost use Rattle.std.specs.Prelude.{◌≡◌};
 ghost use Rattle.cs_base.specs.Limits.{limit_number, most_of};
 
 use thiserror::Error;
 
-/// Bytes of an orchestra.
+/// Most bytes of an orchestra.
 pub const MOST_ORCHESTRA_BYTES: usize = 1_048_576;
-/// Bytes of a score.
+/// Most bytes of a score.
 pub const MOST_SCORE_BYTES: usize = 4_194_304;
-/// Different instrument numbers of an orchestra.
+/// Most different instrument numbers of an orchestra.
 pub const MOST_INSTRUMENTS: usize = 200;
-/// Statements of one instrument, those in its `if`s counted too.
+/// Most statements of one instrument, including the statements in its `if`s.
 pub const MOST_STATEMENTS: usize = 2_000;
-/// Notes that are active in one control cycle.
+/// Most notes that are active in one control cycle.
 pub const MOST_NOTES: usize = 512;
-/// Different table numbers of a score.
+/// Most different table numbers of a score.
 pub const MOST_TABLES: usize = 300;
-/// `i` and `f` statements of a score, stops and `f 0` among them.
+/// Most `i` and `f` statements of a score, including stops and `f 0`.
 pub const MOST_EVENTS: usize = 100_000;
-/// Bytes of the samples of a sound file.
+/// Most bytes of samples in a sound file.
 pub const MOST_WAV_BYTES: u64 = 2_147_483_648;
-/// Words of all shared resources together: one a point of a table, and one a variable, a channel or a zak place, or as
-/// many as a control cycle has frames where it is of sounds.
+/// Most words of all shared resources together: one for each point of a table and for each variable, channel
+/// or zak place; an audio variable, channel or place has one word for each frame of a control cycle.
 pub const MOST_WORDS: usize = 65_536;
-/// Samples of all delay lines of one note.
+/// Most samples of all delay lines of one note.
 pub const MOST_DELAY_SAMPLES: usize = 262_144;
-/// Shared resources.
+/// Most shared resources.
 pub const MOST_RESOURCES: usize = 4_096;
-/// Notes that a performance keeps of those that other notes ask for.
+/// Most notes that a performance stores after other notes scheduled them.
 pub const MOST_ASKS: usize = 100_000;
-/// Bytes of one file with orchestra and score: those of both texts at most.
+/// Most bytes of one file with orchestra and score: at most the two texts' limits together.
 pub const MOST_CSD_BYTES: usize = 5_242_880;
 
-/// `if`s around a statement.
+/// Most `if`s around a statement.
 pub const MOST_NESTED_IFS: usize = 100;
-/// Tokens of a line of an orchestra.
+/// Most tokens on a line of an orchestra.
 pub const MOST_LINE_TOKENS: usize = 1_000;
-/// The greatest number of an instrument.
+/// The greatest instrument number.
 pub const GREATEST_INSTRUMENT: u32 = 32_767;
-/// The greatest number of a p-field in an orchestra, and the most fields of a statement of a score.
+/// The greatest p-field number in an orchestra, and the most fields of a statement in a score.
 pub const GREATEST_FIELD: usize = 100;
-/// The greatest size that `zakinit` takes.
+/// The greatest size that `zakinit` accepts.
 pub const GREATEST_ZAK_SIZE: u32 = 1_000;
-/// The greatest number of frames a second.
+/// The greatest number of frames per second.
 pub const GREATEST_SR: u32 = 192_000;
-/// The greatest number of frames a control cycle.
+/// The greatest number of frames per control cycle.
 pub const GREATEST_KSMPS: u32 = 4_096;
-/// The most channels.
+/// Most channels.
 pub const MOST_CHANNELS: u32 = 16;
-/// The greatest number of a table.
+/// The greatest table number.
 pub const GREATEST_TABLE: u32 = 65_535;
 
-/// A stated limit, in the order of their numbers. It is passed where what it counts is more than its greatest number.
+/// The stated limits, in the order of their numbers. A limit is exceeded if the count is greater than `most`.
 #[derive(Clone, Copy, Debug, PartialEq, Eq)]
 pub enum Limit {
     OrchestraBytes = 1,
@@ -71,14 +71,14 @@ pub enum Limit {
 }
 
 impl Limit {
-    /// The limit's number, from 1 to 13, as a refusal prints it.
+    /// Returns the limit's number, from 1 to 13, which is printed in a refusal.
     pub fn number(self) -> u8
         ensures { result ≡ limit_number self }
     {
         self as u8
     }
 
-    /// The greatest count that it allows.
+    /// Returns the greatest count that the limit allows.
     pub fn most(self) -> u64
         ensures { result ≡ most_of self }
     {
@@ -100,7 +100,7 @@ impl Limit {
     }
 }
 
-/// A limit that was passed, and the line that passes it: 0 where no place in a text does.
+/// A limit that was exceeded, and the line that exceeds it, or 0 if no line of a text does.
 #[derive(Clone, Copy, Debug, PartialEq, Eq, Error)]
 #[error("limit {limit:?} passed at line {line}")]
 pub struct LimitHit {
@@ -109,7 +109,7 @@ pub struct LimitHit {
 }
 
 impl LimitHit {
-    /// A limit that no line of a text passes: at line 0.
+    /// Returns `limit`, exceeded at line 0, since no line of a text exceeds it.
     pub fn at_no_line(limit: Limit) -> LimitHit
         ensures { result ≡ record { limit = limit; line = 0 } }
     {

@@ -1,4 +1,4 @@
-// A number of the profile is a whole count of 65,536ths; nothing anywhere is floating point.
+// A number of the profile is an integer multiple of 1/65,536; floating point is never used.
 ghost use Rattle.std.specs.Prelude.{◌≡◌, ◌≢◌, ◌<◌, ◌^◌, pos, ◌*ℤ◌, ◌≤ℤ◌, ◌<ℤ◌, neg_ℤ, unsigned_abs, IsTrue, ◌↔◌};
 ghost use Rattle.std.specs.Ordering.{int_cmp};
 ghost use Rattle.cs_base.specs.Numbers.{IsRaw, clamp, one, floor_div, sum_of, difference_of, product_of};
@@ -12,13 +12,13 @@ const LEAST: i64 = -140_737_488_355_328;
 
 const GREATEST: i64 = 140_737_488_355_327;
 
-/// One as a raw value: a number is a count of 65,536ths.
+/// The raw value of one: a number is a count of 65,536ths.
 pub const ONE: i64 = 65_536;
 
-/// The bits of a number's fraction: a shift by them divides by `ONE` and rounds down.
+// The number of bits of the fraction: a right shift by it divides by `ONE` and rounds down.
 const FRACTION_BITS: u32 = 16;
 
-/// A number of the profile: `raw` whole 65,536ths, from -2^47 to 2^47 - 1. Contracts see `raw`.
+/// A number of the profile: `raw` 65,536ths, from -2^47 to 2^47 - 1. Contracts see `raw`.
 #[derive(Clone, Copy, Debug, PartialEq, Eq)]
 pub struct Num {
     raw: i64,
@@ -38,7 +38,7 @@ impl Model for Num {
 }
 
 impl Num {
-    /// The number of `raw` 65,536ths, brought into range.
+    /// Returns the number with `raw` 65,536ths, clamped to the range of numbers.
     pub fn of_raw(raw: i64) -> Num
         ensures { result ≡ clamp raw }
     {
@@ -47,7 +47,7 @@ impl Num {
         }
     }
 
-    /// The number of `raw` 65,536ths, which lie in range.
+    /// Returns the number with `raw` 65,536ths, which must be in range.
     pub fn exact(raw: i64) -> Num
         requires { IsRaw raw }
         ensures { result ≡ raw }
@@ -55,7 +55,7 @@ impl Num {
         Num { raw }
     }
 
-    /// The number of `raw` 65,536ths in 128 bits, brought into range.
+    /// Returns the number with `raw` 65,536ths, given in 128 bits, clamped to the range of numbers.
     pub fn of_wide(raw: i128) -> Num
         ensures { result ≡ clamp raw }
     {
@@ -68,7 +68,7 @@ impl Num {
         Num { raw: raw as i64 }
     }
 
-    /// The number of a product of two raw values, rounded down.
+    /// Returns the number for a product of two raw values, rounded down.
     #[inline(always)]
     pub fn of_product(product: i64) -> Num
         ensures { result ≡ floor_div product one }
@@ -76,14 +76,14 @@ impl Num {
         Num::exact(product >> FRACTION_BITS)
     }
 
-    /// A whole number, brought into range.
+    /// Returns the integer `n` as a number, clamped to the range of numbers.
     pub fn of_whole(n: i64) -> Num
         ensures { result ≡ clamp (n *ℤ pos 65536) }
     {
         Num::of_raw(n.saturating_mul(ONE))
     }
 
-    /// The number in whole 65,536ths.
+    /// Returns the raw value: the number in 65,536ths.
     pub fn raw(self) -> i64
         ensures value { result ≡ self }
         ensures in_range { IsRaw result }
@@ -91,25 +91,25 @@ impl Num {
         self.raw
     }
 
-    /// The sum, brought into range.
+    /// Returns the sum, clamped to the range of numbers.
     pub fn add(self, other: Num) -> Num
         ensures { result ≡ sum_of self other }
     {
         Num::of_raw(self.raw + other.raw)
     }
 
-    /// The difference, brought into range.
+    /// Returns the difference, clamped to the range of numbers.
     pub fn sub(self, other: Num) -> Num
         ensures { result ≡ difference_of self other }
     {
         Num::of_raw(self.raw - other.raw)
     }
 
-    /// The product, rounded down and brought into range.
+    /// Returns the product, rounded down and clamped to the range of numbers.
     pub fn mul(self, other: Num) -> Num
         ensures { result ≡ product_of self other }
     {
-        // Both arms are the same text: in the first the compiler knows that the product fits into 64 bits.
+        // Both arms have the same text: in the first, the compiler knows that the product fits into 64 bits.
         if is_short(self.raw) && is_short(other.raw) {
             Num::of_wide(scaled(self, other))
         } else {
@@ -117,19 +117,23 @@ impl Num {
         }
     }
 
-    /// The quotient, rounded down and brought into range. By 0 it is the greatest number where `self` is above 0,
-    /// the least where it is below, and 0 where it is 0.
+    /// Returns the quotient, rounded down and clamped to the range of numbers. A division by 0 returns the
+    /// greatest number if `self` is positive, the least if it is negative, and 0 if it is 0.
     pub fn div(self, other: Num) -> Num
         ensures { result ≡ quotient_of self other }
     {
         if other.raw == 0 {
             Num::exact(by_zero(self.raw))
-        } else {
+        } else if self.raw == LEAST {
+            // The only number whose dividend, negated, needs more than 64 bits.
             Num::of_wide(floored(times(self.raw, ONE), other.raw))
+        } else {
+            Num::of_raw(narrow_floored(dividend(self.raw), other.raw))
         }
     }
 
-    /// What the quotient, rounded down to a whole number, leaves of `self`. It has the divisor's sign; by 0 it is 0.
+    /// Returns the remainder of the quotient rounded down to an integer. It has the sign of the divisor; the
+    /// remainder of a division by 0 is 0.
     pub fn rem(self, other: Num) -> Num
         ensures { result ≡ remainder_of self other }
     {
@@ -140,7 +144,7 @@ impl Num {
         }
     }
 
-    /// The whole number at or below `self`, from -2^31 to 2^31 - 1.
+    /// Returns the greatest integer that is at most `self`, from -2^31 to 2^31 - 1.
     pub fn whole_below(self) -> i64
         ensures value { result ≡ whole_below self }
         ensures low { neg_ℤ (pos (2 ^ 31)) ≤ℤ result }
@@ -149,14 +153,15 @@ impl Num {
         self.raw >> FRACTION_BITS
     }
 
-    /// The greatest whole number that is at most `self`.
+    /// Returns the greatest integer that is at most `self`, as a number.
     pub fn floor(self) -> Num
         ensures { result ≡ floor_of self }
     {
         Num::exact(floored_raw(self.raw))
     }
 
-    /// The number without its fraction: `floor` of a number from 0 on, else the negation of `floor` of the negation.
+    /// Returns the integer part: `floor` of a number that is 0 or greater, and the negation of the `floor` of
+    /// its negation if it is negative.
     pub fn int(self) -> Num
         ensures { result ≡ int_of self }
     {
@@ -167,21 +172,21 @@ impl Num {
         }
     }
 
-    /// What `int` drops, with the sign of `self`.
+    /// Returns the fraction that `int` drops, with the sign of `self`.
     pub fn frac(self) -> Num
         ensures { result ≡ frac_of self }
     {
         Num::exact(self.raw - self.int().raw)
     }
 
-    /// The number without its sign, brought into range.
+    /// Returns the absolute value, clamped to the range of numbers.
     pub fn abs(self) -> Num
         ensures { result ≡ abs_of self }
     {
         Num::of_raw(self.raw.abs())
     }
 
-    /// Whether it is less than `other`, equal to it or greater.
+    /// Returns whether `self` is less than, equal to or greater than `other`.
     #[inline(always)]
     pub fn compare(self, other: Num) -> Ordering
         ensures { result ≡ int_cmp self other }
@@ -227,7 +232,33 @@ fn floored(n: i128, d: i64) -> i128
     }
 }
 
-// The quotient by 0.
+// The dividend x * 65,536, whose quotient by a raw value is a raw value.
+#[inline(always)]
+fn dividend(x: i64) -> i64
+    requires low { neg_ℤ (pos (2 ^ 47)) <ℤ x }
+    requires high { x <ℤ pos (2 ^ 47) }
+    ensures value { result ≡ x *ℤ one }
+    ensures bounded { unsigned_abs result < 2 ^ 63 }
+{
+    x * ONE
+}
+
+// Returns the quotient of a 64-bit dividend, rounded down.
+#[inline(always)]
+fn narrow_floored(n: i64, d: i64) -> i64
+    requires nonzero { unsigned_abs d ≢ 0 }
+    requires divisor { unsigned_abs d < 2 ^ 63 }
+    requires bounded { unsigned_abs n < 2 ^ 63 }
+    ensures { result ≡ floor_div n d }
+{
+    if d > 0 {
+        n.div_euclid(d)
+    } else {
+        (-n).div_euclid(-d)
+    }
+}
+
+// The quotient of a division by 0, by the sign of the dividend.
 fn by_zero(x: i64) -> i64
     ensures { result ≡ quotient_by_zero x }
 {
@@ -240,7 +271,7 @@ fn by_zero(x: i64) -> i64
     }
 }
 
-// What the quotient rounded down leaves: the remainder that the code has, moved to the divisor's sign.
+// The remainder of the quotient rounded down: Rust's remainder, adjusted to the sign of the divisor.
 fn modulo(x: i64, y: i64) -> i64
     requires nonzero { unsigned_abs y ≢ 0 }
     requires dividend { IsRaw x }

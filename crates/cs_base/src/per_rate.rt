@@ -1,4 +1,4 @@
-// What is counted or kept for each rate.
+// One value for each rate, such as a count.
 ghost use Rattle.std.specs.Prelude.{◌≡◌};
 ghost use Rattle.cs_base.specs.Rates.{at_rate};
 
@@ -13,7 +13,7 @@ pub struct PerRate<T> {
 }
 
 impl<T: Copy> PerRate<T> {
-    /// The value for a rate.
+    /// Returns the value for `rate`.
     pub fn of(&self, rate: Rate) -> T
         ensures { result ≡ at_rate self.now rate }
     {

@@ -1,25 +1,25 @@
-// What the texts of a piece are refused for, as one type from the first text that is read to the status.
+// The refusal of a piece's texts: one type, from reading the texts to the exit status.
 ghost use Rattle.std.specs.Prelude.{◌≡◌};
 ghost use Rattle.cs_base.specs.Faults.{or_by, passed};
 ghost use Rattle.cs_base.specs.declared.refusal.Refusal.TheVariants as refusal;
 
 use crate::{CsdFault, Limit, LimitHit, Or, OrcFault, ScoreFault};
 
-/// The first refusal of a piece's texts, with its line in the file in which it stands, or 0 where it has none.
+/// The first refusal of a piece's texts, with its line in the file, or line 0 if it has none.
 #[derive(Clone, Copy, Debug, PartialEq, Eq)]
 pub enum Refusal {
     /// A broken rule of the orchestra.
     Orc(OrcFault),
     /// A broken rule of the score.
     Score(ScoreFault),
-    /// A limit of either text, or of both together: then at line 0.
+    /// A limit that one of the texts exceeds, or that both exceed together; then the line is 0.
     Limit(LimitHit),
-    /// A broken rule of the tags of a file with both texts.
+    /// A broken rule of the tags of a file that contains both texts.
     Csd(CsdFault),
 }
 
 impl Refusal {
-    /// The refusal for a limit that no line of a text passes: at line 0.
+    /// Returns the refusal for `limit` at line 0, if no line of a text exceeds it.
     pub fn passed(limit: Limit) -> Refusal
         ensures { result ≡ passed limit }
     {

@@ -3,7 +3,8 @@ ghost use Rattle.std.specs.Prelude.{◌≡◌};
 ghost use Rattle.cs_base.specs.Rates.{is_init, is_control, is_audio, same_rate, within, faster};
 ghost use Rattle.cs_base.specs.Rates.{res_kind, res_number, res_rate, same_res};
 
-/// How often a value changes: once a note, once a control cycle, or once a frame.
+/// How often a value changes: once per note (i-rate), once per control cycle (k-rate), or once per frame
+/// (a-rate).
 #[derive(Clone, Copy, Debug, PartialEq, Eq)]
 pub enum Rate {
     Init,
@@ -12,21 +13,21 @@ pub enum Rate {
 }
 
 impl Rate {
-    /// Whether a value of this rate is known when the note begins.
+    /// Whether this is i-rate: the value is known when the note begins.
     pub fn is_init(self) -> bool
         ensures { result ≡ is_init self }
     {
         matches!(self, Rate::Init)
     }
 
-    /// Whether a value of this rate changes once a control cycle.
+    /// Whether this is k-rate: the value changes once per control cycle.
     pub fn is_control(self) -> bool
         ensures { result ≡ is_control self }
     {
         matches!(self, Rate::Control)
     }
 
-    /// Whether a value of this rate changes once a frame: it is a sound.
+    /// Whether this is a-rate: the value is an audio signal, which changes once per frame.
     pub fn is_audio(self) -> bool
         ensures { result ≡ is_audio self }
     {
@@ -40,14 +41,14 @@ impl Rate {
         self as u8 == other as u8
     }
 
-    /// Whether a value of this rate changes no more often than one of the other.
+    /// Whether a value of this rate changes no more often than a value of rate `other`.
     pub fn within(self, other: Rate) -> bool
         ensures { result ≡ within self other }
     {
         self as u8 <= other as u8
     }
 
-    /// Whichever of `self` and `other` changes more often.
+    /// Returns whichever of `self` and `other` changes more often.
     pub fn faster(self, other: Rate) -> Rate
         ensures { result ≡ faster self other }
     {
@@ -55,8 +56,8 @@ impl Rate {
     }
 }
 
-/// What notes share. A variable or a channel is numbered in the order in which the text first has it, a zak place by
-/// its index in its space, and a table by its own number.
+/// A resource that notes share. Variables and channels are numbered in the order in which the text first
+/// mentions them, a zak place by its index in its space, and a table by its table number.
 #[derive(Clone, Copy, PartialEq, Eq)]
 pub enum Res {
     Gi(usize),
@@ -77,7 +78,7 @@ impl Res {
         self.kind() == other.kind() && self.number() == other.number()
     }
 
-    /// Its kind: 0 to 7 in the order above.
+    /// Returns the resource's kind: 0 to 7, in the order above.
     pub fn kind(self) -> u8
         ensures { result ≡ res_kind self }
     {
@@ -93,7 +94,7 @@ impl Res {
         }
     }
 
-    /// Its number among those of its kind.
+    /// Returns the resource's number among the resources of its kind.
     pub fn number(self) -> usize
         ensures { result ≡ res_number self }
     {
@@ -109,7 +110,7 @@ impl Res {
         }
     }
 
-    /// How often it changes: a variable as often as its name says, a table at any frame.
+    /// Returns how often the resource changes: a variable at the rate of its name, a table at any frame.
     pub fn rate(self) -> Rate
         ensures { result ≡ res_rate self }
     {

@@ -1,9 +1,9 @@
-// The sizes of the zak spaces.
-/// How many places each zak space has: both 0 where an orchestra has no `zakinit`.
+// The numbers of places of the zak spaces.
+/// The number of places of each zak space; both are 0 if the orchestra has no `zakinit`.
 #[derive(Clone, Copy)]
 pub struct Spaces {
-    /// Places of the space of control values, from 0 to 1,001.
+    /// Number of k-rate places, from 0 to 1,001.
     pub control: u32,
-    /// Places of the space of sounds, from 0 to 1,001.
+    /// Number of a-rate places, from 0 to 1,001.
     pub audio: u32,
 }

@@ -1,4 +1,4 @@
-// A count of steps, by which a contract bounds work.
+// A count of steps, with which a contract bounds work.
 ghost use Rattle.std.specs.Prelude.{◌≡◌, ◌+◌, ◌-◌, ◌<◌, ◌^◌};
 
 /// A counter that only contracts read.
@@ -8,14 +8,14 @@ pub struct Steps {
 }
 
 impl Steps {
-    /// A counter at 0.
+    /// Returns a counter at 0.
     pub fn new() -> Steps
         ensures { result.count ≡ 0 }
     {
         Steps { count: 0 }
     }
 
-    /// Adds one.
+    /// Adds one to the count.
     pub fn tick(&mut self)
         requires { self.old.count < 2 ^ 64 - 1 }
         ensures { self.new.count ≡ self.old.count + 1 }

@@ -1,4 +1,4 @@
-// A string without a capacity, so that a contract can compare it.
+// A string whose capacity contracts can't see, so that contracts can compare it.
 ghost use Rattle.std.specs.Prelude.{◌≡◌, string_bytes};
 
 use std::marker::Model;
@@ -18,13 +18,14 @@ impl Model for Text {
 }
 
 impl Text {
-    /// The text of a string, without a copy.
+    /// Returns the text of a string, without a copy.
     pub fn from_string(text: String) -> Text
         ensures { result ≡ string_bytes text }
     {
         Text { text }
     }
 
+    /// Returns the text as a string slice.
     pub fn as_str(&self) -> &str
         ensures { result.now ≡ self.now }
     {

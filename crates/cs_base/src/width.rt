@@ -2,7 +2,7 @@
 ghost use Rattle.std.specs.Prelude.{◌≡◌};
 ghost use Rattle.cs_base.specs.Widths.{bytes_of, greatest_of, least_of};
 
-/// How many bytes a sample takes in the sound file.
+/// The number of bytes of a sample in the sound file.
 #[derive(Clone, Copy)]
 pub enum SampleWidth {
     /// 16 bits.
@@ -12,7 +12,7 @@ pub enum SampleWidth {
 }
 
 impl SampleWidth {
-    /// The bytes of a sample: 2 or 3.
+    /// Returns the number of bytes of a sample: 2 or 3.
     pub fn bytes(self) -> u32
         ensures { result ≡ bytes_of self }
     {
@@ -22,7 +22,7 @@ impl SampleWidth {
         }
     }
 
-    /// The greatest sample: 32,767 or 8,388,607.
+    /// Returns the greatest sample: 32,767 or 8,388,607.
     pub fn greatest(self) -> i64
         ensures { result ≡ greatest_of self }
     {
@@ -32,7 +32,7 @@ impl SampleWidth {
         }
     }
 
-    /// The least sample: -32,768 or -8,388,608.
+    /// Returns the least sample: -32,768 or -8,388,608.
     pub fn least(self) -> i64
         ensures { result ≡ least_of self }
     {

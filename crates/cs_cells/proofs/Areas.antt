@@ -1,4 +1,5 @@
--- Resources by number: a number stands for one resource, and its index among the areas is the resource's place.
+-- Resources by number: a number denotes one resource, and its index in the set is the resource's index among
+-- the areas.
 use Rattle.std.proofs.lemmas.{Grind.common_steps, List.map_more, List.length-map, Option.slice_get-get_or}
 use Rattle.std.proofs.Common.{◌≡◌, ℕ, zero, suc, ◌+◌, ◌<◌, List, [], ◌∷◌, ◌++◌, length, take, get_or, slice_get, Some}
 use Rattle.std.proofs.Common.{Bool, true, false, ◌&&◌, nat_eq, refl, sym, subst, arith, eq-eqb, if◌then◌else◌, ⊎_elim}
@@ -10,6 +11,7 @@ use Rattle.cs_base.proofs.Rates.{same_res_is}
 use Rattle.cs_cells.specs.{declared.footprint.Area.Area, Areas.HasPlace, Areas.IsLaid}
 use Rattle.cs_cells.specs.inner.Index.{key, keys_of}
 
+-- whether two keys are the same
 abbrev pub same : ℕ × ℕ → ℕ × ℕ → Bool
 same k y = nat_eq k.0 y.0 && nat_eq k.1 y.1
 
@@ -57,7 +59,7 @@ in_front (suc i) (a ∷ rest) r zero h = (omega arith, h)
 in_front (suc i) (a ∷ rest) r (suc place) h = let found : (place < i) × HasPlace rest r place =
     in_front i rest r place h in (omega arith, found.1)
 
--- the next area's resource is none of those before
+-- the next area's resource differs from the resources of all areas before it
 pub next_is_new : (areas : List Area) (i : ℕ) (d : Area) → IsLaid areas → i < length areas
     → list_any (same (key (get_or areas i d).res)) (keys_of (take i areas)) ≡ false
 next_is_new areas i d laid l =

@@ -40,7 +40,7 @@ laid_more areas area laid first new = record {
       (at_push areas area p h.0 h.1);
 }
 
--- an area ends where a later one begins, or before
+-- an area ends at or before the beginning of a later one
 area_before : (areas : List Area) (p q : ℕ) (a : Area) → p < q → slice_get areas p ≡ Some a
     → word_count (take p areas) + a.length ≤ word_count (take q areas)
 area_before [] p q a l at = absurd (cc)
@@ -56,7 +56,7 @@ area_within areas p a laid at =
     let here : (get_or areas p a).length ≡ a.length = ap (λ x. x.length) (get_or_from_slice_get areas p a a at) in
     omega (arith, sum_by_more_le (λ x. x.length) areas p a (slice_get_within areas p a at))
 
--- the area of an option in which an address lies
+-- if an address is in an optional area, there is an area, and it contains the address
 in_some : (o : Option Area) (x : ℕ) → in_area o x ≡ true
     → (a : Area) × (o ≡ Some a) × (a.first ≤ x) × (x < a.first + a.length)
 in_some None x h = absurd (cc)
@@ -79,7 +79,7 @@ one_place areas p q x laid hp hq =
     apart)
     (cases_order p q)
 
--- a covered address lies in the area of a listed place
+-- a covered address is in the area with a listed index
 pub covered_place : (areas : List Area) (places : List ℕ) (x : ℕ) → covers areas places x ≡ true
     → (i : ℕ) × (place : ℕ) × (slice_get places i ≡ Some place) × (in_area (slice_get areas place) x ≡ true)
 covered_place areas [] x h = absurd (cc)
@@ -88,7 +88,7 @@ covered_place areas (place ∷ places) x h = ⊎_elim
     (λ later. let rest = covered_place areas places x later in (suc rest.0, rest.1, rest.2, rest.3))
     (or_cases (in_area (slice_get areas place) x) (covers areas places x) h)
 
--- a covered address is one of the layout's
+-- a covered address is less than the number of cells
 pub covered_below : (areas : List Area) (places : List ℕ) (x : ℕ) → IsLaid areas → covers areas places x ≡ true
     → x < word_count areas
 covered_below areas places x laid h = grind (arith, common_steps, area_within, covered_place, in_some)

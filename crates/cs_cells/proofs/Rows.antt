@@ -1,4 +1,4 @@
--- Cells read into a row and set from a row, one by one.
+-- Cells that are read into a row and set from a row, one by one.
 use Rattle.std.proofs.lemmas.{Grind.common_steps, Bool.eqb-true, Bool.and_from, Bool.Decides.nat_tests}
 use Rattle.std.proofs.Common.{◌≡◌, ◌≢◌, ℕ, ◌+◌, ◌-◌, ◌<◌, ◌≤◌, ◌==◌, ◌&&◌, true, false, List, if◌then◌else◌, length}
 use Rattle.std.proofs.Common.{map, take, ℤ, set, slice_set, nat_le, nat_lt, ap, sym, ◌∙◌, arith}
@@ -8,7 +8,7 @@ use Rattle.std.proofs.lemmas.List.FromFn.{map-range_with_len_more}
 use Rattle.cs_base.proofs.Tests.{by_test}
 use Rattle.cs_cells.specs.Cells.{cell, with_row}
 
--- the first so many places of a row have what a value is from a number on
+-- after one more read, the first j + 1 values of a row are the values of f from `first` on
 pub read_more : (f : ℕ → ℤ) (row : List ℤ) (first j : ℕ) (z : ℤ) → j < length row
     → take j row ≡ map f (range_with_len first j) → z ≡ f (first + j)
     → take (j + 1) (set row j z) ≡ map f (range_with_len first (j + 1))
@@ -18,7 +18,7 @@ pub read_all : (f : ℕ → ℤ) (row : List ℤ) (first n j : ℕ) → length r
     → take j row ≡ map f (range_with_len first j) → row ≡ map f (range_with_len first n)
 read_all f row first n j long done within so_far = grind (arith, common_steps, take_all)
 
--- a test of an address, and what it tells of the cell there
+-- a test for an address, and the value of the cell there
 apart : (m n : ℕ) → (m == n) ≡ false → m ≢ n
 apart m n h = grind (arith, nat_tests)
 
@@ -26,14 +26,14 @@ pub set_cell : (c : List ℤ) (k : ℕ) (z : ℤ) (a : ℕ) → k < length c
     → cell (slice_set c k z) a ≡ (if a == k then z else cell c a)
 set_cell c k z a low = grind (arith, common_steps, apart, by_test, eqb-true, get_or-set_other, get_or-set_same)
 
--- no address is among none
+-- an empty range contains no address
 not_among : (f a : ℕ) → (nat_le f a && nat_lt a (f + 0)) ≡ false
 not_among f a = grind (arith, common_steps, by_test, nat_le, nat_lt, nat_tests)
 
 pub with_row_none : (first : ℕ) (w cells : ℕ → ℤ) → cells ≡ with_row first 0 w cells
 with_row_none first w cells = λ i a. sym (ap (λ b. if b then w (a - first) else cells a) (not_among first a)) i
 
--- one cell more
+-- one more cell
 beyond : (m a : ℕ) → a ≢ m → m ≤ a → m + 1 ≤ a
 beyond m a n l = grind (arith, common_steps, by_test, eqb-true, nat_tests)
 

@@ -1,4 +1,4 @@
--- What follows from the frame law alone, for any kind of job.
+-- Consequences of the frame law for any kind of job.
 use Rattle.std.proofs.lemmas.Grind.{common_steps}
 use Rattle.std.proofs.Common.{◌≡◌, ℕ, zero, suc, ◌+◌, ◌-◌, ◌<◌, ◌≤◌, List, [], ◌∷◌, map, length, slice_get, Some, refl}
 use Rattle.std.proofs.Common.{sym, ◌∙◌, ap, subst, arith}
@@ -33,7 +33,7 @@ module _ {J : Type 0} (M : Meaning J) (F : Frames M) where
   length-before [] c (suc t) = refl
   length-before (x ∷ js) c (suc t) = length-before js (M.leaves x c) t ∙ F.long x c
 
-  -- a serial run leaves the footprints and the areas of its jobs, and the number of cells
+  -- a serial run changes neither the footprints and areas of its jobs nor the number of cells
   pub foot-serial_jobs : (js : List J) (c : Cells) → map M.foot (serial_jobs M js c) ≡ map M.foot js
   foot-serial_jobs [] c = refl
   foot-serial_jobs (x ∷ js) c = grind (arith, common_steps, foot-serial_jobs js (M.leaves x c))
@@ -46,7 +46,7 @@ module _ {J : Type 0} (M : Meaning J) (F : Frames M) where
   length-serial_cells [] c = refl
   length-serial_cells (x ∷ js) c = length-serial_cells js (M.leaves x c) ∙ F.long x c
 
-  -- a job that does not write a cell leaves it
+  -- a job that doesn't write a cell leaves it unchanged
   pub passed_by : (js : List J) (c : Cells) → AllValid M js → (t a : ℕ)
       → ((j : J) → slice_get js t ≡ Some j → ¬ (Writes M j a))
       → cell (before M js c (suc t)) a ≡ cell (before M js c t) a
@@ -55,7 +55,7 @@ module _ {J : Type 0} (M : Meaning J) (F : Frames M) where
   passed_by (x ∷ js) c s zero a q = F.others x c a (s 0 x refl) (q x refl)
   passed_by (x ∷ js) c s (suc t) a q = passed_by js (M.leaves x c) (λ u. s (suc u)) t a q
 
-  -- nor do k jobs from p on, none of which writes it
+  -- k jobs from index p on, none of which writes the cell, leave it unchanged
   pub passed_by_all : (js : List J) (c : Cells) → AllValid M js → (p a k t : ℕ) → t ≡ p + k → IsQuiet M js p t a
       → cell (before M js c t) a ≡ cell (before M js c p) a
   passed_by_all js c s p a zero t e q = let same : t ≡ p = omega arith in ap (λ u. cell (before M js c u) a) same

@@ -1,4 +1,4 @@
--- A small layout that is worked out by hand.
+-- A small layout, worked out by hand.
 use Rattle.std.specs.Prelude.{ℕ, List, [], ◌∷◌}
 use Rattle.cs_base.specs.declared.resource.Res.TheVariants.{Gk, Control, Table}
 use Rattle.cs_cells.specs.declared.footprint.Area.{Area}
@@ -11,6 +11,6 @@ three_areas =
     ∷ record { res = Table 1; first = 2; length = 4 }
     ∷ []
 
--- one table of so many points
+-- one table of n points
 abbrev pub one_area : ℕ → List Area
 one_area n = record { res = Table 1; first = 0; length = n } ∷ []

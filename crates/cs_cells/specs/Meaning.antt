@@ -2,8 +2,8 @@ use Rattle.std.specs.Prelude.{◌≡◌, ◌||◌, ℕ, List, length, true}
 use Rattle.cs_cells.specs.{declared.footprint.Area.Area, declared.footprint.Footprint.Footprint}
 use Rattle.cs_cells.specs.Cells.{Cells, cell, covers, Agree}
 
--- What a kind of job means: the layout and the footprint of each, the job and the cells after its run, and what is true
--- of each job that code holds.
+-- The meaning of a kind of job: the layout and the footprint of each job, the job and the cells after its
+-- run, and the property that every job in the code has.
 pub record Meaning (J : Type 0) : Type 1 where
   pub areas : J → List Area
   pub foot : J → Footprint
@@ -12,15 +12,17 @@ pub record Meaning (J : Type 0) : Type 1 where
   pub valid : J → Type 0
 
 module _ {J : Type 0} (M : Meaning J) where
-  -- the job's footprint has the cell's resource among those used or written: whatever is written counts as used
+  -- the job's footprint contains the cell's resource, as used or as written: a resource that is written also
+  -- counts as used
   abbrev pub Uses : J → ℕ → Type 0
   Uses j a = (covers (M.areas j) (M.foot j).uses a || covers (M.areas j) (M.foot j).writes a) ≡ true
 
-  -- the job's footprint has the cell's resource among those written
+  -- the job's footprint contains the cell's resource as written
   abbrev pub Writes : J → ℕ → Type 0
   Writes j a = covers (M.areas j) (M.foot j).writes a ≡ true
 
-  -- The frame law: a run is a function of the job and of the used cells, and only written cells change.
+  -- The frame law: the effect of a run is a function of the job and of the used cells, and only written cells
+  -- change.
   pub record Frames : Type 0 where
     pub job : (j : J) (c d : Cells) → M.valid j → Agree (Uses j) c d → M.after j c ≡ M.after j d
     pub cells : (j : J) (c d : Cells) → M.valid j → Agree (Uses j) c d → Agree (Uses j) (M.leaves j c) (M.leaves j d)

@@ -4,7 +4,7 @@ ghost use Rattle.std.specs.Prelude.{◌≡◌, true, IfOk};
 use cs_base::{Places, Res};
 use std::alloc::{AllocError, Global};
 
-/// A resource's cells in a layout: `length` cells from the address `first` on.
+/// A resource's cells in a layout: `length` cells, starting at address `first`.
 #[derive(Clone, Copy)]
 pub struct Area {
     pub res: Res,
@@ -12,7 +12,8 @@ pub struct Area {
     pub length: u32,
 }
 
-/// What a note may touch, as places of areas in a layout, ascending, each once. Whatever is written counts as used.
+/// The resources that a note may touch, as indices of areas in a layout, in ascending order without
+/// duplicates. A resource that is written also counts as used.
 #[derive(Drop)]
 pub struct Footprint {
     pub uses: Places,
@@ -20,7 +21,7 @@ pub struct Footprint {
 }
 
 impl Footprint {
-    /// The same, in memory of its own.
+    /// Returns a copy of the footprint.
     pub fn copy(&self, alloc: Global) -> Result<Footprint, AllocError>
         ensures { IfOk result (λ copy. copy ≡ self.now) }
     {
@@ -30,7 +31,7 @@ impl Footprint {
         })
     }
 
-    /// Whether another names the same places.
+    /// Whether `other` has the same indices.
     pub fn is(&self, other: &Footprint) -> bool
         ensures { result ≡ true → self.now ≡ other.now }
     {

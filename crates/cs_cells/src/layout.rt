@@ -1,4 +1,4 @@
-// Which cells are whose.
+// The assignment of cells to resources.
 ghost use Rattle.std.specs.Prelude.{◌≡◌, ℕ, ◌+◌, ◌<◌, length, slice_get, IfOk, IfErr, IfSome, IfNone};
 ghost use Rattle.cs_base.specs.declared.fault.Or.TheVariants as or;
 ghost use Rattle.cs_cells.specs.Areas.{HasPlace, IsLaid, limit_passed, word_count};
@@ -10,7 +10,8 @@ use indexmap::IndexSet;
 use std::alloc::{AllocFailed, Global};
 use std::marker::Model;
 
-/// Where each resource's cells are. Contracts see the list of its areas; a resource's place is its index there.
+/// The cells of each resource. Contracts see the list of its areas; the index of a resource is the index of
+/// its area in this list.
 #[derive(Drop)]
 pub struct Layout {
     areas: Vec<Area>,
@@ -31,13 +32,14 @@ impl Model for Layout {
 }
 
 impl Layout {
-    /// Lays out areas that follow one another from address 0 without gaps, each of another resource. More of them than
-    /// 4,096 pass the limit on resources, and then more than 65,536 words in all that on words, at line 0.
+    /// Lays out areas, which must follow one another from address 0 without gaps, each for a different
+    /// resource. More than 4,096 areas exceed the limit on resources; otherwise, more than 65,536 words in
+    /// total exceed the limit on words. Both are reported at line 0.
     pub fn build(alloc: Global, areas: &[Area]) -> Result<Layout, Or<LimitHit>>
         requires { IsLaid areas.now }
         ensures areas { IfOk result (λ l. l ≡ areas.now) }
         ensures limit { IfSome (limit_passed areas.now) (λ h. result ≡ Err (or.Fault h)) }
-        // Within the limits want of memory alone is refused.
+        // Within the limits, the only possible error is out of memory.
         ensures memory { IfNone (limit_passed areas.now) (IfErr result (λ e. e ≡ or.OutOfMemory)) }
     {
         if areas.len() > MOST_RESOURCES {
@@ -56,7 +58,7 @@ impl Layout {
         })
     }
 
-    /// The place of a resource's area, or None where no area is the resource's.
+    /// Returns the index of a resource's area, or `None` if the resource has no area.
     pub fn find(&self, res: Res) -> Option<u32>
         ensures found { IfSome result (HasPlace self.now res) }
         ensures none { IfNone result ((place : ℕ) → ¬ (HasPlace self.now res place)) }
@@ -70,13 +72,14 @@ impl Layout {
         }
     }
 
-    /// Where a resource's area is, if the areas of its kind follow one another in the order of their numbers.
+    // The index of a resource's area, if the areas of its kind follow one another in the order of their
+    // numbers.
     #[inline(always)]
     fn guess(&self, res: Res) -> usize {
         self.starts[res.kind() as usize & 7].wrapping_add(res.number())
     }
 
-    /// The place, if the area there is the resource's.
+    // The index `place`, if the area there belongs to the resource.
     #[inline(always)]
     fn at(&self, place: usize, res: Res) -> Option<u32>
         ensures { IfSome result (HasPlace self.now res) }
@@ -87,7 +90,7 @@ impl Layout {
         }
     }
 
-    /// The area at a place.
+    /// Returns the area at index `place`.
     pub fn area(&self, place: u32) -> Area
         requires { place < length self.now }
         ensures { slice_get self.now place ≡ Some result }
@@ -95,7 +98,7 @@ impl Layout {
         self.areas[place as usize]
     }
 
-    /// The number of cells of all areas.
+    /// Returns the number of cells of all areas.
     pub fn words(&self) -> u32
         ensures words { result ≡ word_count self.now }
         ensures laid { IsLaid self.now }
@@ -104,7 +107,7 @@ impl Layout {
         self.words
     }
 
-    /// The number of areas.
+    /// Returns the number of areas.
     pub fn len(&self) -> u32
         ensures { result ≡ length self.now }
     {
@@ -112,7 +115,7 @@ impl Layout {
     }
 }
 
-/// The end of the last area.
+// The end address of the last area.
 fn words_of(areas: &[Area]) -> u64
     requires { IsLaid areas.now }
     ensures { result ≡ word_count areas.now }
@@ -123,15 +126,15 @@ fn words_of(areas: &[Area]) -> u64
     }
 }
 
-/// The address after the area's last.
+// The address after the area's last cell.
 fn end_of(area: Area) -> u64
     ensures { result ≡ area.first + area.length }
 {
     u64::from(area.first) + u64::from(area.length)
 }
 
-/// Of each kind, where the area of number 0 would be by the last of its areas. Nothing rests on it: `find` looks at the
-/// place that it tells.
+// For each kind, the index that its area number 0 would have, inferred from the kind's last area. Correctness
+// doesn't depend on it: `find` checks the area at the index that it yields.
 fn starts_of(areas: &[Area]) -> [usize; 8] {
     let mut starts = [0; 8];
     for place in 0..areas.len() {
@@ -147,7 +150,7 @@ fn key_of(res: Res) -> (u8, usize)
     (res.kind(), res.number())
 }
 
-/// The resources by number, each at the place of its area.
+// The set of resources, each at the index of its area.
 fn index(alloc: Global, areas: &[Area]) -> Result<IndexSet<(u8, usize)>, AllocFailed<(u8, usize)>>
     requires { IsLaid areas.now }
     ensures { IfOk result (λ s. s.keys ≡ keys_of areas.now) }

@@ -1,12 +1,14 @@
-//! What notes share and may touch. Resources have cells in one row, laid out by a `Layout`; a `Job`, such as the
-//! performing of a note, reads and writes cells through a `Bank`, within its `Footprint`.
+//! The resources that notes share, and which of them a note may touch. Resources have cells in one row, which
+//! a `Layout` assigns; a `Job`, such as the performance of a note, reads and writes cells through a `Bank`,
+//! within its `Footprint`.
 //!
-//! The one contract: what a job does is a function of the job and of the cells that it uses, and
-//! only cells that it writes change (`Job`, the frame law). From that law alone follow the two laws
-//! of the serial run (`serial_laws`), on which any order of running rests.
+//! The one contract: the effect of a job is a function of the job and of the cells that it uses, and only
+//! cells that it writes change (`Job`, the frame law). The two laws of the serial run (`serial_laws`), on
+//! which every order of running depends, follow from the frame law.
 //!
-//! How a layout finds a resource, and how a bank keeps its cells, may change without anyone above noticing. In reading
-//! order: `footprint`, `layout`, `bank`, `job`, `serial`; `examples` works a small layout out.
+//! How a layout finds a resource, and how a bank stores its cells, may change without anyone above noticing.
+//! In reading order: `footprint`, `layout`, `bank`, `job`, `serial`; `examples` has a small layout as a
+//! worked example.
 #![tactic(auto)]
 
 mod bank;

@@ -1,14 +1,14 @@
-// What follows from the frame law alone for jobs that run one after another.
+// Consequences of the frame law for jobs that run one after another.
 ghost use Rattle.std.specs.Prelude.{◌≡◌, ℕ, List, map, length, slice_get, Some};
 ghost use Rattle.cs_cells.specs.{Cells.Cells, Cells.Agree, Meaning.Uses};
 ghost use Rattle.cs_cells.specs.Serial.{serial_cells, serial_jobs, before, AllValid, LastWriter, AsSerial};
 
 use crate::Job;
 
-/// The laws of the serial run, of any jobs and any cells: that each job runs once, the two on which any
-/// order of running rests, and what no run changes. It does nothing: its clauses are the laws.
+/// The laws of the serial run, for any jobs and any cells: each job runs once, the two laws on which every
+/// order of running depends, and the facts that no run changes. It does nothing: its clauses are the laws.
 pub fn serial_laws<J: Job>()
-    // Each job ends as by one run, over the cells that all earlier jobs left.
+    // The final state of each job results from one run, on the cells that all earlier jobs left.
     ensures once { (js : List J) (c : Cells) (t : ℕ) (j : J) → slice_get js t ≡ Some j
         → slice_get (serial_jobs J.means js c) t ≡ Some (J.means.after j (before J.means js c t)) }
     ensures last_writer { (js : List J) (c : Cells) → AllValid J.means js → LastWriter J.means js c }

@@ -1,11 +1,11 @@
--- Text that a writer has, and text that waits in front of it.
+-- Text that a writer has received, and text in the buffer in front of it.
 use Rattle.std.proofs.Common.{arith, ◌≡◌, ◌≢◌, ◌⊎◌, ⊎_elim, ℕ, List, [], ◌++◌, All, Option, None, Some, Result, Ok, Err}
 use Rattle.std.proofs.Common.{OnErr, OnOk, subst, sym, ◌∙◌, append_assoc, append-nil}
 use Rattle.std.proofs.lemmas.{Grind.common_steps, List.Elements.All-append}
 use Rattle.cs_base.specs.Lines.{line_feed}
 use Rattle.std.specs.Io.KnownBytes.{Appends, append_known}
 
--- text was added, and all was written
+-- text was added to the buffer, and then everything was written
 pub all_sent : (a b c : Option (List ℕ)) (before between text : List ℕ)
     → Appends (append_known a before) (append_known b between) text → Appends b c between
     → Appends (append_known a before) c text
@@ -14,7 +14,7 @@ all_sent (Some x) None c before between text p q = absurd p
 all_sent (Some x) (Some y) None before between text p q = absurd q
 all_sent (Some x) (Some y) (Some z) before between text p q = q ∙ p
 
--- lines were written, and then the rest was added
+-- complete lines were written, and then the rest was added to the buffer
 pub all_put : (a b c : Option (List ℕ)) (before between after lines rest piece : List ℕ)
     → Appends (append_known a before) b lines → between ≡ []
     → Appends (append_known b between) (append_known c after) rest → lines ++ rest ≡ piece
@@ -25,8 +25,9 @@ all_put (Some x) (Some y) None before between after lines rest piece p none q e 
 all_put (Some x) (Some y) (Some z) before between after lines rest piece p none q e =
     grind (arith, common_steps, append-nil, append_assoc)
 
--- ---- what is held has no line feed
+-- ---- the buffer has no line feed
 
+-- a text has no line feed
 abbrev pub NoFeed : List ℕ → Type 0
 NoFeed text = All (λ b. b ≢ line_feed) text
 

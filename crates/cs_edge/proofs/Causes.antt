@@ -1,4 +1,4 @@
--- What a call's count of faults says, and what is known of a file.
+-- Facts about the fault count of a call, and about the known bytes of a file.
 use Rattle.std.proofs.Common.{◌≡◌, ℕ, ◌≤◌, List, Option, None, Some, Ok, Err, refl, arith}
 use Rattle.std.specs.Io.KnownBytes.{Keeps}
 use Rattle.cs_edge.specs.Told.{HasCause, Rose}

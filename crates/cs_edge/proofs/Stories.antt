@@ -8,15 +8,15 @@ use Rattle.cs_edge.specs.Moves.{WroteMore, WrotePart, Wrote, Finished, Stopped, 
 use Rattle.cs_edge.proofs.Chains.{follows_on, follows_as, follows_same, grown_on, grown_by, all_none, all_on, run_begun}
 use Rattle.cs_edge.proofs.Chains.{run_on, front_all, front_of_front}
 
--- what is held, with these bytes more
+-- the contents with further bytes
 abbrev with_more : List ℕ → Held → Held
 with_more bytes held = record { name = held.name; bytes = held.bytes ++ bytes; ended = held.ended }
 
--- what is held, with other bytes
+-- the contents with other bytes
 abbrev with_bytes : Held → List ℕ → Held
 with_bytes held bytes = record { name = held.name; bytes = bytes; ended = held.ended }
 
--- what is held, and ended
+-- the contents, ended
 abbrev with_end : Held → Held
 with_end held = record { name = held.name; bytes = held.bytes; ended = true }
 
@@ -39,11 +39,11 @@ more_on a b c xs ys w held moves same = record {
   same = same ∙ w.same;
 }
 
--- counts that stayed, and then rose
+-- fault counts that were unchanged and then rose
 pub rose_after : (a b c : ℕ) → b ≡ a → Rose b c → Rose a c
 rose_after a b c e r = rw e at r
 
--- a write that failed behind the front of a piece
+-- a write that failed after a prefix of a piece
 pub part_failed : (a b c : SinkTold) (front piece : List ℕ) → WroteMore a b front → IsFront front piece
     → Follows b.held c.held (λ before now. now ≡ before)
     → Follows b.moves c.moves (GrownBy Write) → Rose b.faults c.faults → b.faults ≤ c.faults → WrotePart a c piece
@@ -57,7 +57,7 @@ part_failed a b c front piece w f held moves rose later = record {
   later = omega (arith, w.same, later);
 }
 
--- PIECES BEHIND ONE ANOTHER
+-- PIECES, ONE AFTER ANOTHER
 
 all_both : (move : Move) (x y : List Move) → AreAll move x → AreAll move y → AreAll move (x ++ y)
 all_both move x y p q = (p.0 + q.0, rw (p.1, q.1) (replicate-append-replicate p.0 q.0 move))
@@ -71,11 +71,11 @@ taken_both : (a b c : SinkTold) (xs ys : List ℕ) → Follows a.held b.held (Ta
 taken_both a b c xs ys p q =
     follows_on (TakenMore xs) (TakenMore ys) (TakenMore (xs ++ ys)) (more_twice xs ys) a.held b.held c.held p q
 
--- a piece, and another one whole
+-- a piece, followed by another complete one
 pub more_both : (a b c : SinkTold) (xs ys : List ℕ) → WroteMore a b xs → WroteMore b c ys → WroteMore a c (xs ++ ys)
 more_both a b c xs ys w m = grind (arith, common_steps, made_both, taken_both)
 
--- or in part
+-- a piece, followed by a part of another
 pub part_behind : (a b c : SinkTold) (xs ys : List ℕ) → WroteMore a b xs → WrotePart b c ys → WrotePart a c (xs ++ ys)
 part_behind a b c xs ys w p = record {
   front = xs ++ p.front;
@@ -86,13 +86,13 @@ part_behind a b c xs ys w p = record {
   later = omega (arith, w.same, p.later);
 }
 
--- a part of a piece is one of a longer piece
+-- a part of a piece is a part of a longer piece
 pub part_longer : (a b : SinkTold) (xs ys : List ℕ) → IsFront xs ys → WrotePart a b xs → WrotePart a b ys
 part_longer a b xs ys f p = grind (arith, common_steps, front_of_front)
 
--- WHOLE FILES
+-- ENTIRE FILES
 
--- a begin
+-- a `begin`
 pub begun : (a b : SinkTold) (name : List ℕ) → Follows a.held b.held (λ _ now. now ≡ open_file name [])
     → Follows a.moves b.moves (GrownBy (Begin name)) → b.faults ≡ a.faults → Wrote a b name []
 begun a b name held moves same = grind (arith, common_steps, run_begun)
@@ -107,7 +107,7 @@ open_more : (name xs ys : List ℕ) (a b c : SinkTold) → Follows a.held b.held
     → Follows b.held c.held (TakenMore ys) → Follows a.held c.held (λ _ now. now ≡ open_file name (xs ++ ys))
 open_more name xs ys a b c p q = grind (arith, common_steps, follows_on)
 
--- and writes
+-- a `begin` followed by writes
 pub wrote_on : (a b c : SinkTold) (name xs ys : List ℕ) → Wrote a b name xs → WroteMore b c ys
     → Wrote a c name (xs ++ ys)
 wrote_on a b c name xs ys w m = grind (arith, common_steps, open_more, run_more)
@@ -119,12 +119,12 @@ whole_moves : (name : List ℕ) (a b c : Option (List Move)) → Follows a b (Gr
     → Follows b c (GrownBy End) → Follows a c (Grown (IsWhole name))
 whole_moves name a b c made moves = grind (arith, common_steps, follows_on, grown_by, grown_on, whole_on)
 
--- and an end
+-- a `begin` followed by writes and an `end`
 pub finished : (a b c : SinkTold) (name bytes : List ℕ) → Wrote a b name bytes → Follows b.held c.held IsEnded
     → Follows b.moves c.moves (GrownBy End) → c.faults ≡ b.faults → Finished a c name bytes
 finished a b c name bytes w held moves same = grind (arith, common_steps, follows_on, whole_moves)
 
--- FRONTS OF WHOLE FILES
+-- PREFIXES OF ENTIRE FILES
 
 -- no call at all
 pub stopped_untouched : (a b : SinkTold) (name bytes : List ℕ) → b ≡ a → Stopped a b name bytes
@@ -136,7 +136,7 @@ stopped_untouched a b name bytes e = record {
   later = let same = ap (λ (t : SinkTold). t.faults) e in omega arith;
 }
 
--- a begin that failed
+-- a `begin` that failed
 pub stopped_begin : (a b : SinkTold) (name bytes : List ℕ) → Follows a.held b.held (λ _ now. now ≡ no_file)
     → Follows a.moves b.moves (GrownBy (Begin name)) → a.faults ≤ b.faults → Stopped a b name bytes
 stopped_begin a b name bytes held moves later = record {
@@ -148,7 +148,7 @@ stopped_begin a b name bytes held moves later = record {
   later = later;
 }
 
--- a file that is open with the front of some bytes
+-- a file that is open with a prefix of some bytes
 front_moves : (name : List ℕ) (a b : SinkTold) → Follows a.moves b.moves (Grown (IsRun name Write))
     → Follows a.moves b.moves (Grown (IsFrontOf (IsWhole name)))
 front_moves name a b made =
@@ -165,18 +165,18 @@ pub stopped_writes : (a b : SinkTold) (name front whole : List ℕ) → Wrote a 
     → Stopped a b name whole
 stopped_writes a b name front whole w f = grind (arith, common_steps, front_moves, open_front)
 
--- a piece that was written in part, behind others
+-- a piece that was written in part, after others
 pub stopped_part : (a b c : SinkTold) (name xs ys whole : List ℕ) → Wrote a b name xs → WrotePart b c ys
     → IsFront (xs ++ ys) whole → Stopped a c name whole
 stopped_part a b c name xs ys whole w p f =
     grind (arith, common_steps, append_assoc, front_moves, front_of_front, open_front, open_more, run_more)
 
--- what stopped in some bytes stopped in longer ones
+-- a file that stopped within some bytes stopped within longer ones
 pub stopped_longer : (a b : SinkTold) (name bytes whole : List ℕ) → IsFront bytes whole → Stopped a b name bytes
     → Stopped a b name whole
 stopped_longer a b name bytes whole f s = grind (arith, common_steps, begun, follows_as, front_of_front)
 
--- an end that failed
+-- an `end` that failed
 pub stopped_end : (a b c : SinkTold) (name bytes : List ℕ) → Wrote a b name bytes
     → Follows b.held c.held (λ before now. now ≡ before) → Follows b.moves c.moves (GrownBy End) → b.faults ≤ c.faults
     → Stopped a c name bytes

@@ -2,8 +2,8 @@ use Rattle.std.specs.Prelude.{List, Some, drop}
 use Rattle.cs_edge.specs.{declared.moves.Move.Move, Files.ShelfTold, Memory.bytes_at, Memory.told_moves}
 use Rattle.cs_edge.specs.{declared.fakes.script.Script.Script, declared.fakes.mem_shelf.MemShelf.MemShelf}
 
--- what a shelf in memory tells: its files, what is left of the file begun, its moves as long as they are kept, its
--- faults
+-- the state that a shelf in memory tells: its files, the bytes left of the file begun, its calls as long as
+-- they are stored, and its fault count
 abbrev pub shelf_told : MemShelf → ShelfTold
 shelf_told s = record {
   files = Some s.files;
@@ -12,10 +12,10 @@ shelf_told s = record {
   faults = s.script.faults;
 }
 
--- its calls that are to fail, and how many were made
+-- the script of a shelf: the calls that are to fail, and the number of calls made
 abbrev pub shelf_script : MemShelf → Script
 shelf_script s = s.script
 
--- the moves that it kept
+-- the calls that a shelf has stored
 abbrev pub shelf_moves : MemShelf → List Move
 shelf_moves s = s.kept.moves

@@ -1,2 +1,2 @@
--- What private clauses cite alone.
+-- Definitions that only private clauses use.
 pub mod Page

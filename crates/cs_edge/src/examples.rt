@@ -1,8 +1,9 @@
-// The lines of the meters, computed: a call that does nothing, whose contract is the examples.
+// The meters' lines as worked examples: a function that does nothing, and whose contract is the examples.
 ghost use Rattle.std.specs.Prelude.{◌≡◌, pos, negsuc, [], ◌∷◌, codes};
 ghost use Rattle.cs_edge.specs.Taps.{peak_line, mirror_line, mirror_text};
 
-/// Lines of the meters: a peak is a whole number and five digits, a mirror the count and the values that it kept.
+/// Lines of the meters: a peak is an integer and five decimal places; a mirror line is the count, followed by
+/// the stored values.
 pub fn worked_examples()
     ensures hundred { peak_line 6553600 ≡ codes "peak 100.00000\n" }
     ensures smallest { peak_line 1 ≡ codes "peak 0.00001\n" }

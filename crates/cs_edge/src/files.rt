@@ -7,7 +7,7 @@ pub struct NamedBytes {
     pub bytes: Bytes,
 }
 
-/// Files in memory; of two with one name the first counts.
+/// Files in memory; if two have the same name, the first one is used.
 pub type Files = Items<NamedBytes>;
 
 /// The numbers of the calls that are to fail, counted from 1.

@@ -1,16 +1,18 @@
 //! The edge of the program: every file that is read, every sound file and line of text that is written, every
-//! meter and every gate is an object that the caller hands in. The crates above meet it by four traits alone.
+//! meter and every gate is an object that the caller passes in. The crates above use these objects only
+//! through four traits.
 //!
-//! The one contract: what a shelf or a sink tells after a call follows from what it told before, a call that
-//! succeeds leaves its count of faults as it was, and one that fails raises it, up to its last value; a tap that
-//! stood for a list of values stands for the longer list once it was told more.
+//! The one contract: the state that a shelf or a sink tells after a call follows from the state that it told
+//! before; a call that succeeds leaves its fault count unchanged, and a call that fails raises it, up to the
+//! maximum; a tap that represents a list of values represents the longer list after it takes more values.
 //!
-//! What an object keeps, and how, may change without anyone above noticing; so may the adapters over the runtime.
+//! The data that an object stores, and their form, may change without anyone above noticing; so may the
+//! adapters over the runtime.
 //!
-//! In reading order: `moves` (the calls made on an object), `files`, `shelf`, `sink`, `writing` (all of a piece),
-//! `gate`, `tap`; the meter, `page` (a line in a buffer), `peak`, `examples` (lines of meters, computed); `line_buffer`
-//! (text that is written in whole lines), `adapters` over files and writers, the edge itself; and apart from these
-//! `fakes`, the objects that serve tests alone.
+//! In reading order: `moves` (the calls made on an object), `files`, `shelf`, `sink`, `writing` (writes an
+//! entire piece), `gate`, `tap`; the meter, `page` (a line in a buffer), `peak`, `examples` (lines of meters,
+//! computed); `line_buffer` (text that is written in complete lines), `adapters` over files and writers,
+//! which are the edge itself; and separately `fakes`, objects only for tests.
 #![tactic(auto)]
 
 mod adapters;

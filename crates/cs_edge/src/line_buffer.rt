@@ -1,4 +1,4 @@
-// A buffer in front of a writer, which gets whole lines.
+// A buffer in front of a writer; it passes on only complete lines.
 ghost use Rattle.std.specs.Prelude.{◌≡◌, ◌≢◌, ◌⊎◌, ◌<◌, ◌≤◌, ◌-◌, [], ◌++◌, All, length, drop, slice_index_or, OnOk};
 ghost use Rattle.std.specs.{Prelude.OnErr, Io.KnownBytes.Appends, Io.KnownBytes.append_known};
 ghost use Rattle.cs_base.specs.Lines.{line_feed};
@@ -8,7 +8,7 @@ use std::io;
 use std::io::Write;
 use std::marker::Model;
 
-/// The text that has not been written, since its line feed has not come yet.
+/// The text that has not been written yet, because its line feed is still missing.
 #[derive(Drop)]
 pub struct LineBuffer {
     held: Vec<u8>,
@@ -22,12 +22,12 @@ impl Model for LineBuffer {
 
     ghost view = { λ t. t.held.items };
 
-    // It has no line feed.
+    // The buffer has no line feed.
     ghost invariant = { λ t. All (λ b. b ≢ line_feed) t.held.items };
 }
 
 impl LineBuffer {
-    /// An empty buffer. It takes no memory.
+    /// Returns an empty buffer. It allocates nothing yet.
     pub fn new(alloc: Global) -> LineBuffer
         ensures { result ≡ [] }
     {
@@ -36,11 +36,11 @@ impl LineBuffer {
         }
     }
 
-    /// Takes a piece of text. Writes the buffer and the piece up to its last line feed, in one call of `write_all`, and
-    /// keeps the rest. Where memory is refused, writes what it would keep. Returns the first error of a write; the
-    /// buffer is empty then.
+    /// Takes a piece of text: writes the buffer and the piece up to its last line feed with one call of
+    /// `write_all`, and stores the rest in the buffer. If memory runs out, it writes the rest, too. Returns
+    /// the first error of a write; the buffer is then empty.
     pub fn put<W: Write>(&mut self, out: &mut W, piece: &[u8]) -> io::Result<()>
-        // The writer's bytes with the buffer behind them have grown by the piece.
+        // The writer's bytes followed by the buffer have grown by the piece.
         ensures taken { OnOk result (Appends (append_known (W.contents out.old) self.old)
             (append_known (W.contents out.new) self.new) piece.now) }
         ensures failed { OnErr result (self.new ≡ []) }
@@ -53,7 +53,7 @@ impl LineBuffer {
         add(out, &mut self.held, &piece[end..])
     }
 
-    /// Writes the buffer, and empties it, also where the write fails.
+    /// Writes the buffer and empties it, even if the write fails.
     pub fn flush<W: Write>(&mut self, out: &mut W) -> io::Result<()>
         ensures written { OnOk result (Appends (W.contents out.old) (W.contents out.new) self.old) }
         ensures none { self.new ≡ [] }
@@ -62,7 +62,7 @@ impl LineBuffer {
     }
 }
 
-/// Adds text to the buffer; where memory is refused, writes both.
+// Appends text to the buffer. If memory runs out, writes both.
 fn add<W: Write>(out: &mut W, held: &mut Vec<u8>, text: &[u8]) -> io::Result<()>
     ensures taken { OnOk result (Appends (append_known (W.contents out.old) held.old.items)
         (append_known (W.contents out.new) held.new.items) text.now) }
@@ -76,7 +76,7 @@ fn add<W: Write>(out: &mut W, held: &mut Vec<u8>, text: &[u8]) -> io::Result<()>
     out.write_all(text)
 }
 
-/// Writes the buffer and text behind it, and empties it, also where a write fails.
+// Writes the buffer followed by the text and empties the buffer, even if a write fails.
 fn add_and_send<W: Write>(out: &mut W, held: &mut Vec<u8>, text: &[u8]) -> io::Result<()>
     ensures written { OnOk result (Appends (append_known (W.contents out.old) held.old.items)
         (W.contents out.new) text.now) }
@@ -86,7 +86,7 @@ fn add_and_send<W: Write>(out: &mut W, held: &mut Vec<u8>, text: &[u8]) -> io::R
     send(out, held)
 }
 
-/// Writes the buffer, and empties it, also where the write fails.
+// Writes the buffer and empties it, even if the write fails.
 fn send<W: Write>(out: &mut W, held: &mut Vec<u8>) -> io::Result<()>
     ensures written { OnOk result (Appends (W.contents out.old) (W.contents out.new) held.old.items) }
     ensures none { held.new.items ≡ [] }
@@ -96,7 +96,7 @@ fn send<W: Write>(out: &mut W, held: &mut Vec<u8>) -> io::Result<()>
     sent
 }
 
-/// Returns the length of a text up to and including its last line feed; 0 if it has none.
+// The length of a text up to and including its last line feed; 0 if it has none.
 fn lines_len(text: &[u8]) -> usize
     ensures within { result ≤ length text.now }
     ensures feed { 0 < result → slice_index_or text.now (result - 1) 0 ≡ line_feed }

@@ -1,13 +1,13 @@
 use cs_base::Text;
 
-/// A call of a shelf or a sink failed; the object's count of faults rose.
+/// A call of a shelf or a sink failed; the object's fault count rose.
 #[derive(Clone, Copy, Debug, PartialEq, Eq)]
 pub struct Failed;
 
-/// A call that was made on a shelf or a sink, a failed one too.
+/// A call that was made on a shelf or a sink, whether or not it failed.
 #[derive(Drop)]
 pub enum Move {
-    /// A begin of that name.
+    /// A `begin` with this name.
     Begin(Text),
     Read,
     Write,

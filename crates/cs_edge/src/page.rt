@@ -1,12 +1,12 @@
-// A text in a buffer, piece by piece.
+// A text that is written into a buffer, piece by piece.
 ghost use Rattle.std.specs.Prelude.{ℕ, List, ◌++◌, ◌<◌, decimal};
 ghost use Rattle.std.specs.Fmt.{signed_decimal};
 ghost use Rattle.cs_edge.specs.inner.Page.{Shows};
 
 use itoa::Buffer;
 
-/// Adds a piece to the text in a buffer, and returns how many bytes are used then;
-/// nothing once the text has outgrown the buffer.
+/// Appends a piece to the text in a buffer, and returns the number of bytes used, or `None` once the text has
+/// outgrown the buffer.
 pub fn add_piece(out: &mut [u8], used: Option<usize>, piece: &[u8]) -> Option<usize>
     ensures { (text : List ℕ) → Shows used out.old text → Shows result out.new (text ++ piece.now) }
 {
@@ -20,14 +20,14 @@ pub fn add_piece(out: &mut [u8], used: Option<usize>, piece: &[u8]) -> Option<us
     Some(from + piece.len())
 }
 
-/// Adds a number in decimal.
+/// Appends a number in decimal.
 pub fn add_number(out: &mut [u8], used: Option<usize>, n: u64) -> Option<usize>
     ensures { (text : List ℕ) → Shows used out.old text → Shows result out.new (text ++ decimal n) }
 {
     add_piece(out, used, Buffer::new().format(n).as_bytes())
 }
 
-/// Adds a number in decimal, after a dash where it is below 0.
+/// Appends a number in decimal, after a minus sign if it is negative.
 pub fn add_signed(out: &mut [u8], used: Option<usize>, z: i64) -> Option<usize>
     ensures { (text : List ℕ) → Shows used out.old text → Shows result out.new (text ++ signed_decimal z) }
 {

@@ -12,7 +12,7 @@ pub struct PeakTap {
 }
 
 impl PeakTap {
-    /// It stands for no values.
+    /// Returns a meter that represents the empty list.
     pub fn new() -> PeakTap
         ensures { ⟦<PeakTap as Tap>⟧.stands_for result [] }
     {
@@ -36,7 +36,7 @@ impl Tap for PeakTap {
     }
 }
 
-/// Writes the line of a peak at the front of the buffer, where it fits.
+// Writes a peak's line at the start of the buffer, if it fits.
 fn put_peak(out: &mut [u8], peak: u64) -> Option<usize>
     ensures { Shows result out.new (peak_line peak) }
 {
@@ -47,7 +47,7 @@ fn put_peak(out: &mut [u8], peak: u64) -> Option<usize>
     add_piece(out, used, b"\n")
 }
 
-/// Adds a number below 100,000 in five digits, with leading zeros.
+// Appends a number below 100,000 in five digits, with leading zeros.
 fn add_five_digits(out: &mut [u8], used: Option<usize>, n: u64) -> Option<usize>
     requires { n < 100000 }
     ensures { (text : List ℕ) → Shows used out.old text → Shows result out.new (text ++ five_digits n) }
@@ -58,7 +58,7 @@ fn add_five_digits(out: &mut [u8], used: Option<usize>, n: u64) -> Option<usize>
     add_piece(out, used, digits)
 }
 
-/// The zeros that bring this number of digits to five.
+// The zeros that pad this number of digits to five.
 fn zeros_before(digits: usize) -> &'static [u8]
     ensures { result.now ≡ replicate (5 - digits) 48 }
 {

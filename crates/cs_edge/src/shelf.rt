@@ -1,4 +1,4 @@
-// Where texts are read from.
+// The source from which texts are read.
 ghost use Rattle.std.specs.Prelude.{◌≡◌, ◌<◌, ◌≤◌, length, IfOk, OnErr};
 ghost use Rattle.cs_edge.specs.declared.moves.Move.TheVariants.{Begin, Read};
 ghost use Rattle.cs_edge.specs.{Told.Follows, Told.HasCause, Moves.GrownBy};
@@ -6,13 +6,14 @@ ghost use Rattle.cs_edge.specs.Files.{ShelfTold, Begins, NothingLeft, TakesFront
 
 use crate::Failed;
 
-/// A place that has files by name. It may tell its files, what is left of the file begun, and the calls made on it.
+/// A collection of files by name. It may tell its files, the bytes left of the file begun, and the calls made
+/// on it.
 pub trait Shelf {
-    /// What it tells.
+    /// The state that the shelf tells.
     ghost tells: { Self → ShelfTold };
 
-    /// Begins the file of that name: true where it can be read, and then all its bytes are left.
-    /// False comes only where the files are told and none has the name.
+    /// Begins the file with this name: returns true if it can be read, and then all of its bytes are left. It
+    /// returns false only if the shelf tells its files and none has the name.
     fn begin(&mut self, name: &str) -> Result<bool, Failed>
         ensures found { IfOk result (λ found. Begins (tells self.old).files name.now found (tells self.new).left) }
         ensures failed { OnErr result (NothingLeft (tells self.new).left) }
@@ -20,8 +21,8 @@ pub trait Shelf {
         ensures moves { Follows (tells self.old).moves (tells self.new).moves (GrownBy (Begin name.now)) }
         ensures files { (tells self.new).files ≡ (tells self.old).files };
 
-    /// Moves at least one byte from the front of what is left into `buf`, and returns how many;
-    /// 0 exactly where nothing is left.
+    /// Moves at least one byte from the start of the bytes left into `buf`, and returns their number; 0 if
+    /// and only if no bytes are left.
     fn read(&mut self, buf: &mut [u8]) -> Result<usize, Failed>
         requires { 0 < length buf.old }
         ensures count { IfOk result (λ n. n ≤ length buf.old) }

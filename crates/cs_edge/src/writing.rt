@@ -3,7 +3,7 @@ ghost use Rattle.cs_edge.specs.{Told.HasCause, Moves.WroteMore, Moves.WrotePart}
 
 use crate::{Failed, Sink};
 
-/// Writes all of a piece, in as many writes as the sink takes.
+/// Writes an entire piece, with as many writes as the sink needs.
 pub fn write_all<K: Sink>(sink: &mut K, piece: &[u8]) -> Result<(), Failed>
     ensures written { OnOk result (WroteMore (K.tells sink.old) (K.tells sink.new) piece.now) }
     ensures part { OnErr result (WrotePart (K.tells sink.old) (K.tells sink.new) piece.now) }

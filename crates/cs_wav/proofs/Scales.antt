@@ -1,4 +1,5 @@
--- Full scale: where a mix value lies to it, its level lies to the range of samples.
+-- Full scale: the level of a mix value is in the range of samples if and only if the value is within full
+-- scale.
 use Rattle.std.proofs.lemmas.{Grind.common_steps, Nat.mul-le}
 use Rattle.std.proofs.Common.{◌≡◌, ◌≤◌, ◌<◌, ◌≤ℤ◌, ◌<ℤ◌, ◌*ℤ◌, ℕ, ◌+◌, ◌*◌, ◌^◌, ℤ, pos, negsuc, neg_ℤ, of_z, to_z, w64}
 use Rattle.std.proofs.Common.{true, false, refl, subst, arith}
@@ -16,7 +17,7 @@ or_true : (b : Bool) → (b || true) ≡ true
 or_true true = refl
 or_true false = refl
 
--- which side of a number another lies on, as a test says it
+-- the order of two numbers, as a test reports it
 lt_true : (x y : ℤ) → x <ℤ y → int_lt x y ≡ true
 lt_true x y h = grind (arith, ints)
 
@@ -29,7 +30,7 @@ le_of_lt z k h = omega (arith, ints, h)
 lt_of_le : (z : ℤ) (k : ℕ) → pos (k + 1) ≤ℤ z → pos k <ℤ z
 lt_of_le z k h = omega (arith, ints, h)
 
--- a value within full scale has its level in the range of samples
+-- the level of a value within full scale is in the range of samples
 in_range : (w : SampleWidth) (d : ℕ) (mix : ℤ) → 0 < d → neg_ℤ (pos d) ≤ℤ mix → mix <ℤ pos d
     → (least_of w ≤ℤ level w (pos d) mix) × (level w (pos d) mix ≤ℤ greatest_of w)
 in_range width.TwoBytes d mix some low high = grind (arith, common_steps, floor_div-lt, ints, le-floor_div, le_of_lt)
@@ -45,14 +46,14 @@ pub end_in_range : (w : SampleWidth) (b : Bool) (z : ℤ) → z ≡ (if b then l
 end_in_range w true z e = let order = range_is w in (omega (arith, ints, e), omega (arith, ints, e, order))
 end_in_range w false z e = let order = range_is w in (omega (arith, ints, e, order), omega (arith, ints, e))
 
--- one below it has its level below that range
+-- the level of a value below full scale is below that range
 below_range : (w : SampleWidth) (d : ℕ) (mix : ℤ) → 0 < d → mix <ℤ neg_ℤ (pos d) → level w (pos d) mix <ℤ least_of w
 below_range width.TwoBytes d mix some low =
     floor_div-lt (mix *ℤ pos 32768) (neg_ℤ (pos 32768)) d some (omega (arith, ints, low))
 below_range width.ThreeBytes d mix some low =
     floor_div-lt (mix *ℤ pos 8388608) (neg_ℤ (pos 8388608)) d some (omega (arith, ints, low))
 
--- and one from full scale on above it
+-- the level of a value at or above full scale is above that range
 above_range : (w : SampleWidth) (d : ℕ) (mix : ℤ) → 0 < d → pos d ≤ℤ mix → greatest_of w <ℤ level w (pos d) mix
 above_range width.TwoBytes d mix some high =
     lt_of_le (floor_div (mix *ℤ pos 32768) (pos d)) 32767
@@ -61,7 +62,7 @@ above_range width.ThreeBytes d mix some high =
     lt_of_le (floor_div (mix *ℤ pos 8388608) (pos d)) 8388607
     (le-floor_div (mix *ℤ pos 8388608) (pos 8388608) d some (omega (arith, ints, high)))
 
--- so the test of range is one of the value
+-- so the test of the range can be done on the value
 pub within : (w : SampleWidth) (dbfs mix : ℤ) → pos 1 ≤ℤ dbfs → neg_ℤ dbfs ≤ℤ mix → mix <ℤ dbfs
     → (is_out_of_range w dbfs mix ≡ false) × (sample w dbfs mix ≡ level w dbfs mix)
 within w (pos d) mix one low high =
@@ -100,7 +101,8 @@ level_small w dbfs mix one low high =
     let greatest = greatest_is w in
     subst (λ z. unsigned_abs z < 2 ^ 62) is (omega (arith, ints, range.0, range.1, least, greatest))
 
--- full scale times a value within it is no further from 0 than full scale times the value that stands for it
+-- the product of full scale and a value within it is at most the product of full scale and `dbfs` in absolute
+-- value
 pub near_product : (w : SampleWidth) (divisor dbfs mix : ℤ) → divisor ≡ dbfs → pos 1 ≤ℤ dbfs → neg_ℤ dbfs ≤ℤ mix
     → mix <ℤ dbfs → unsigned_abs (divisor *ℤ full_scale w) ≤ 2 ^ 61
     → FitsSigned w64 (mix *ℤ full_scale w) × (unsigned_abs (mix *ℤ full_scale w) ≤ 2 ^ 61)
@@ -118,3 +120,8 @@ floor_is n (negsuc d) one = absurd (omega (arith, ints, one))
 pub product_is : (w : SampleWidth) (mix full : ℤ) → FitsSigned w64 mix → full ≡ full_scale w
     → to_z w64 (of_z w64 mix) *ℤ to_z w64 (of_z w64 full) ≡ mix *ℤ full_scale w
 product_is w mix full fits is = grind (arith, common_steps, full_scale-fits, of_z, to_z, to_z-of_z, w64)
+
+-- below, within or above full scale, whatever the width
+pub out_alike : (one other : SampleWidth) (dbfs mix : ℤ) → pos 1 ≤ℤ dbfs
+    → is_out_of_range one dbfs mix ≡ is_out_of_range other dbfs mix
+out_alike one other dbfs mix some = grind (arith, common_steps, above, below, ints, within)

@@ -1,4 +1,4 @@
-// One mix value becomes one sample.
+// Converts one mix value to one sample.
 ghost use Rattle.std.specs.Prelude.{◌≡◌, ◌≤◌, ◌<◌, ◌+◌, ◌^◌, ◌≤ℤ◌, ◌<ℤ◌, pos, neg_ℤ, ◌*ℤ◌, ◌++◌, length, true, take};
 ghost use Rattle.std.specs.Prelude.{drop, not, unsigned_abs, if◌then◌else◌};
 ghost use Rattle.std.specs.{Option.ForSome, Int.int_div_euclid, Int.is_negative};
@@ -8,10 +8,10 @@ ghost use Rattle.cs_wav.specs.Wav.{full_scale, is_out_of_range, little_bytes, co
 use byteorder::{ByteOrder, LittleEndian};
 use cs_base::{Divisor, Num, SampleWidth};
 
-/// How mix values become samples of a width, where a value stands for full scale.
+// The conversion of mix values to samples of one width, with one value of full scale.
 #[derive(Clone, Copy)]
 pub(crate) struct Scale {
-    /// The width of the samples.
+    // The width of the samples.
     pub(crate) width: SampleWidth,
     dbfs: i64,
     divisor: Option<Divisor>,
@@ -22,7 +22,7 @@ pub(crate) struct Scale {
 }
 
 impl Scale {
-    /// The scale of samples of this width, where `dbfs` stands for full scale.
+    // The scale of samples of width `width`, with `dbfs` as full scale.
     pub(crate) fn of(width: SampleWidth, dbfs: Num) -> Scale
         requires { pos 0 <ℤ dbfs }
         ensures width { result.width ≡ width }
@@ -35,8 +35,8 @@ impl Scale {
         }
     }
 
-    /// Writes a mix value as a sample into `out` from place `at` on. Returns 1 where it had to be brought into range,
-    /// else 0.
+    // Writes a mix value as a sample into `out`, starting at index `at`. Returns 1 if the value was clipped,
+    // and 0 otherwise.
     #[inline(always)]
     pub(crate) fn put_value(&self, out: &mut [u8], at: usize, value: i64) -> u32
         requires { at + bytes_of self.now.width ≤ length out.old }
@@ -53,7 +53,8 @@ impl Scale {
         }
     }
 
-    // Whether a value lies within full scale. That is where its level is in the range of samples as it is.
+    // Whether a value is within full scale, so that its level is within the range of samples and needs no
+    // clipping.
     #[inline(always)]
     fn holds(&self, value: i64) -> bool
         ensures within { result ≡ true → (neg_ℤ self.now.dbfs ≤ℤ value) × (value <ℤ self.now.dbfs) }
@@ -76,7 +77,8 @@ impl Scale {
     }
 }
 
-// A value of full scale as a divisor, where every product of full scale and a value within it is at most 2^61 in size.
+// The value of full scale as a divisor, if the product of full scale and any value within it is at most 2^61
+// in absolute value.
 fn near_divisor(width: SampleWidth, dbfs: i64) -> Option<Divisor>
     requires low { pos 1 ≤ℤ dbfs }
     requires high { unsigned_abs dbfs < 2 ^ 47 }
@@ -99,7 +101,7 @@ fn full_scale(width: SampleWidth) -> i64
     width.greatest() + 1
 }
 
-// The level by a product of 128 bits.
+// The level, computed with a 128-bit product.
 fn wide_level(full: i64, dbfs: i64, value: i64) -> i64
     requires above_zero { pos 0 <ℤ dbfs }
     requires bounded { unsigned_abs (int_div_euclid (value *ℤ full) dbfs) < 2 ^ 62 }
@@ -108,7 +110,7 @@ fn wide_level(full: i64, dbfs: i64, value: i64) -> i64
     (i128::from(value) * i128::from(full)).div_euclid(i128::from(dbfs)) as i64
 }
 
-// The end of the range beyond which a value outside full scale lies.
+// The limit to which a value outside full scale is clipped.
 fn end_of_range(width: SampleWidth, value: i64) -> i64
     ensures { result ≡ (if is_negative value then least_of width else greatest_of width) }
 {

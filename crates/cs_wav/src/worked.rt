@@ -1,18 +1,18 @@
-// Worked examples: what the definitions give for values whose answer is known from elsewhere.
+// Worked examples: results of the definitions for values whose samples are known from elsewhere.
 ghost use Rattle.std.specs.Prelude.{◌≡◌, ◌*◌, true, pos, negsuc, length, replicate};
 ghost use Rattle.cs_base.specs.declared.head.Head.{Head};
 ghost use Rattle.cs_base.specs.declared.width.SampleWidth.TheVariants.{TwoBytes, ThreeBytes};
 ghost use Rattle.cs_wav.specs.Wav.{full_scale, sample, is_out_of_range, wav_of};
 ghost use Rattle.cs_wav.specs.Worked.{at_32768, IsOneChannel, eight_of_100};
 
-/// Full scale is half of what 16 bits and 24 bits can tell apart.
+/// Full scale is half of the number of values that 16 or 24 bits can represent.
 pub fn full_scales()
     ensures narrow { full_scale TwoBytes ≡ pos 32768 }
     ensures wide { full_scale ThreeBytes ≡ pos 8388608 }
 {}
 
-/// Levels become samples: 100 is 100, twice 30,000 the greatest sample and out of range, what is just
-/// below 0 is -1, and 100 in 24 bits is 256 times as much.
+/// Levels and their samples: 100 becomes 100; 60,000 is out of range and is clipped to the greatest sample; a
+/// value just below 0 becomes -1; and 100 in 24 bits is 256 times as much.
 pub fn worked_samples()
     ensures level { sample TwoBytes at_32768 (pos (100 * 65536)) ≡ pos 100 }
     ensures greatest { sample TwoBytes at_32768 (pos (60000 * 65536)) ≡ pos 32767 }
@@ -21,7 +21,7 @@ pub fn worked_samples()
     ensures wide { sample ThreeBytes at_32768 (pos (100 * 65536)) ≡ pos 25600 }
 {}
 
-/// Eight frames of 100 at 8 frames a second are the file whose 60 bytes stand in `eight_of_100`; three
+/// Eight frames of 100 at 8 frames per second are the file whose 60 bytes are listed in `eight_of_100`; three
 /// frames of 24 bits are 44 bytes, 9 bytes and one byte 0.
 pub fn worked_file()
     ensures narrow { (head : Head) → IsOneChannel 8 head

@@ -1,4 +1,4 @@
--- Each row of each table is found as itself, by computation.
+-- Looking up each row of each table finds that row, by computation.
 use Rattle.std.proofs.Common.{◌≡◌, ℕ, List, [], ◌∷◌, Bool, true, false, Option, Some, None, map, refl, sym, ap, subst}
 use Rattle.std.proofs.Common.{if◌then◌else◌}
 use Rattle.std.specs.{Str.bytes_eq, List.All, List.list_all}
@@ -35,7 +35,7 @@ opcode_read o = by (word_of (row_of o).name) (of_all (λ o. is_opcode o (word_of
     by word.Foreign h = absurd (cc)
     by word.Other h = absurd (cc)
 
--- what is found has the name
+-- the opcode that is found has the name
 abbrev IfFound : List ℕ → Option Opcode → Type 0
 IfFound name None = Unit {0}
 IfFound name (Some o) = (row_of o).name ≡ name
@@ -55,7 +55,7 @@ pub found_so : (name : List ℕ) (o : Opcode) → catalogued name ≡ Some o →
 unfolding catalogued
 found_so name o e = subst (IfFound name) e (named_so name opcodes)
 
--- what two functions give along a list, row by row
+-- if two functions have equal results along a list, they have equal results for each row
 row_by_row : {A B : Type 0} (f g : A → B) (xs : List A) → map f xs ≡ map g xs → All (λ x. f x ≡ g x) xs
 row_by_row f g [] e = All-nil (λ x. f x ≡ g x)
 row_by_row f g (x ∷ xs) e = All-cons (λ y. f y ≡ g y) x xs (cc e) (row_by_row f g xs (cc e))

@@ -1,4 +1,4 @@
--- Different names behind references, with an index of their places.
+-- Different names in references, with a map of their indices.
 use Rattle.std.proofs.Common.{◌≡◌, ◌∙◌, ◌++◌, ◌||◌, ℕ, suc, Bool, true, false, Bor, List, [], ◌∷◌, map, not, cond, refl}
 use Rattle.std.proofs.Common.{sym, ap, length, Option, Some, None, if◌then◌else◌, ◌+◌, arith}
 use Rattle.std.proofs.lemmas.{List.length-map, Map.Text.btree_map_updates_str, Slice.Eq.bytes_eq-Decides}
@@ -8,10 +8,11 @@ use Rattle.std.specs.{Prelude.Ok, Prelude.OnOk, Prelude.Result, Result.is_err, O
 use Rattle.cs_words.specs.NameSets.{has, place_of, seen}
 use Rattle.cs_words.specs.inner.Indexes.{IsIndex, place_among}
 
+-- the name behind a reference
 abbrev pub now : Bor (List ℕ) → List ℕ
 now n = n.now
 
--- ---- what an index says
+-- ---- the contents of the map
 
 stays : (o : Option ℕ) → is_some (option_map suc o) ≡ is_some o
 stays None = refl
@@ -44,7 +45,7 @@ pub has_name : (names : List (List ℕ)) (index : BTreeMap (Bor (List ℕ)) ℕ)
     → is_some (get_by (λ k. slice_cmp nat_cmp name k.now) index) ≡ has names name
 has_name names index is name = ap is_some (is name) ∙ is_among names name
 
--- the place that an index tells, or the number of names
+-- the index of a name in the map, or the number of names if the map has none
 pub index_place : (ks : List (Bor (List ℕ))) (index : BTreeMap (Bor (List ℕ)) ℕ) → IsIndex (map now ks) index
     → (name : List ℕ) (names : List (List ℕ)) → map now ks ≡ names
     → unwrap_or (get_by (λ k. slice_cmp nat_cmp name k.now) index) (length ks) ≡ place_of names name
@@ -53,7 +54,7 @@ index_place ks index is name names e =
     ∙ ap (unwrap_or (place_among (map now ks) name)) (sym (length-map ks now))
     ∙ among_or_behind (map now ks) name ∙ ap (λ ns. place_of ns name) e
 
--- ---- one name more
+-- ---- one more name
 
 map_more : (ks : List (Bor (List ℕ))) (k : Bor (List ℕ)) → map now (ks ++ k ∷ []) ≡ map now ks ++ k.now ∷ []
 map_more [] k = refl
@@ -72,7 +73,7 @@ none_of : (a b : Bool) → (a || b) ≡ false → (a ≡ false) × (b ≡ false)
 none_of false b h = (refl, h)
 none_of true b h = absurd (cc h)
 
--- where a name is that stands behind all others
+-- the index of a name after x was added at the end
 last_place : (ns : List (List ℕ)) (x name : List ℕ) → has ns x ≡ false
     → (if bytes_eq x name then Some (length ns) else place_among ns name) ≡ place_among (ns ++ x ∷ []) name
 last_place [] x name new = ap (λ b. if b then Some 0 else None) (both_ways x name)
@@ -94,7 +95,7 @@ last_place (n ∷ ns) x name new =
         sym (ap (λ b. if b then Some (length ns) else place_among ns name) e) ∙ rest in
         ap (λ o. if bytes_eq name n then Some 0 else option_map suc o) same
 
--- an index once a new name has the place behind all others
+-- the map is right after a new name was added at the end
 pub indexed_more : (ks more : List (Bor (List ℕ))) (k : Bor (List ℕ)) (index put : BTreeMap (Bor (List ℕ)) ℕ) (v : ℕ)
     → IsIndex (map now ks) index → has (map now ks) k.now ≡ false → v ≡ length ks → more ≡ ks ++ k ∷ []
     → UpdatesBy (λ a b. slice_cmp nat_cmp a.now b.now) (λ x. slice_cmp nat_cmp k.now x.now) index put (Some v)
@@ -106,14 +107,14 @@ indexed_more ks more k index put v is new at m updates name =
     ∙ last_place (map now ks) k.now name new
     ∙ ap (λ ns. place_among ns name) (sym (ap (map now) m ∙ map_more ks k))
 
--- the names once one was seen that isn't among them
+-- the list after adding a name that it doesn't contain
 pub name_seen : (ks more : List (Bor (List ℕ))) (k : Bor (List ℕ)) (names : List (List ℕ)) → map now ks ≡ names
     → has names k.now ≡ false → more ≡ ks ++ k ∷ [] → map now more ≡ seen names k.now
 name_seen ks more k names e new m =
     ap (map now) m ∙ map_more ks k ∙ ap (λ ns. ns ++ k.now ∷ []) e
     ∙ sym (ap (λ b. if b then names else names ++ k.now ∷ []) new)
 
--- what is so where a call doesn't fail
+-- a fact that holds if a call succeeds, given that the call doesn't fail
 pub unless_failed : {A E P : Type 0} (r : Result A E) → is_err r ≡ false → OnOk r P → P
 unless_failed (Ok x) e holds = holds
 unless_failed (Err x) e holds = absurd (cc e)

@@ -1,4 +1,5 @@
--- What a computation over the catalogue shows of each opcode. An opcode more adds nothing here.
+-- Facts about each opcode, derived from computations over the catalogue. Adding an opcode changes nothing
+-- here.
 use Rattle.std.proofs.Common.{◌≡◌, ℕ, List, [], ◌∷◌, Bool, true, false, not, ◌||◌, Some, refl, if◌then◌else◌}
 use Rattle.std.specs.{Str.bytes_eq, List.list_all}
 use Rattle.std.proofs.lemmas.Bool.{and_parts}
@@ -11,7 +12,7 @@ unfolding catalogued
 opcode_found op.Init = refl
 opcode_found o = refl
 
--- what is found among opcodes has what all of them have
+-- an opcode found in a list satisfies every test that all opcodes of the list satisfy
 found_has : (P : Opcode → Bool) (name : List ℕ) (ids : List Opcode) (o : Opcode) → named name ids ≡ Some o
     → list_all P ids ≡ true → P o ≡ true
 found_has P name [] o found all = absurd (cc)
@@ -24,12 +25,12 @@ found_has P name (id ∷ ids) o found all =
     here true is first later = cc
     here false is first later = later is
 
--- a test that all opcodes of the list pass, each opcode passes
+-- each opcode passes a test that all opcodes of the catalogue pass
 pub of_all : (P : Opcode → Bool) → list_all P opcodes ≡ true → (o : Opcode) → P o ≡ true
 unfolding catalogued
 of_all P all o = found_has P (row_of o).name opcodes o (opcode_found o) all
 
--- each opcode that passes one test passes another, where those of the list do
+-- each opcode that passes P passes Q, if this holds for all opcodes of the catalogue
 pub when_all : (P Q : Opcode → Bool) → list_all (λ o. not (P o) || Q o) opcodes ≡ true → (o : Opcode) → P o ≡ true
     → Q o ≡ true
 when_all P Q all o = by (P o) (of_all (λ o. not (P o) || Q o) all o)

@@ -1,4 +1,4 @@
--- What a word that is read as a name or as a field looks like.
+-- The form of a word that is read as a name or as a field.
 use Rattle.std.proofs.Common.{◌≡◌, ◌≤◌, ◌&&◌, ◌==◌, ◌+◌, ◌*◌, ℕ, List, [], ◌∷◌, Bool, true, false, Option, Some, None}
 use Rattle.std.proofs.Common.{◌≢◌, refl, ap, ◌∙◌, sym, if◌then◌else◌, nat_le, codes, arith}
 use Rattle.std.specs.{List.list_all, Str.byte, Str.bytes_eq, Char.is_ascii_digit}
@@ -8,7 +8,7 @@ use Rattle.cs_words.specs.{declared.catalogue.Opcode.Opcode, declared.word.Word.
 use Rattle.cs_words.specs.Words.{words, listed_word, first_of, field_of, field_or, is_leading, digit, plain_word}
 use Rattle.cs_words.specs.declared.word.Word.TheVariants as word
 
--- a word of the list is no name and no field
+-- whether a word comes from the list, so that it is neither a name nor a field
 abbrev is_listed : Word → Bool
 is_listed (word.Keyword k) = true
 is_listed (word.Header h) = true
@@ -27,7 +27,7 @@ listed ((spelling, meaning) ∷ rows) bytes w all e =
     let both = and_parts (is_listed meaning) (list_all (λ r. is_listed r.1) rows) all in
     by_row (bytes_eq bytes spelling) meaning w (looked_up rows bytes) both.0 (λ h. listed rows bytes w both.1 h) e
 
--- what is neither listed nor an opcode is what is left
+-- a word that is neither in the list nor an opcode is the word `left`
 left_of : (bytes : List ℕ) (l : Option Word) (o : Option Opcode) (left w : Word) → listed_word bytes ≡ l
     → is_listed w ≡ false → ((p : Opcode) → word.Opcode p ≢ w) → first_of l o left ≡ w → left ≡ w
 unfolding listed_word
@@ -36,7 +36,7 @@ left_of bytes (Some v) o left w is unlisted other e =
 left_of bytes None (Some p) left w is unlisted other e = absurd (other p e)
 left_of bytes None None left w is unlisted other e = e
 
--- a word of no table, by what it is
+-- a word that is in no table, by its form
 plain_name : (foreign : Bool) (k : Option ℕ) (bytes : List ℕ)
     → (if foreign then word.Foreign else field_or k bytes) ≡ word.Name → is_name bytes ≡ true
 plain_name true k bytes e = absurd (cc e)
@@ -57,7 +57,7 @@ plain_field false None bytes n e = absurd (by (is_name bytes) e)
     by true e = cc e
     by false e = cc e
 
--- a number that a test lets through
+-- a test that yields a number was true, and yields this number
 let_through : (b : Bool) (n k : ℕ) → (if b then Some n else None) ≡ Some k → (b ≡ true) × (n ≡ k)
 let_through true n k e = (refl, cc e)
 let_through false n k e = absurd (cc e)

@@ -1,4 +1,4 @@
--- Places of different names.
+-- Indices of different names.
 use Rattle.std.proofs.Common.{◌≡◌, ◌∙◌, ◌++◌, ◌||◌, ◌+◌, ◌<◌, ℕ, Bool, true, false, List, [], ◌∷◌, not, cond}
 use Rattle.std.proofs.Common.{if◌then◌else◌, refl, sym, ap, length, Some, arith, slice_get, get_or}
 use Rattle.std.specs.Str.{bytes_eq}
@@ -9,7 +9,7 @@ use Rattle.cs_words.specs.NameSets.{has, place_of, seen}
 same : (name : List ℕ) → bytes_eq name name ≡ true
 same name = (bytes_eq-Decides name name).1 refl
 
--- a name that is there has its place within
+-- the index of a name that the list contains is less than the length
 within : (name : List ℕ) (names : List (List ℕ)) → has names name ≡ true → place_of names name < length names
 within name [] e = absurd (cc e)
 within name (x ∷ xs) e = by (bytes_eq name x) (within name xs) e

@@ -1,4 +1,4 @@
--- The catalogue: what each opcode is called, what it takes and gives, and how it is performed.
+-- The catalogue: the name of each opcode, its arguments and results, and how it is performed.
 use Rattle.std.specs.Prelude.{ℕ, Bool, true, false, not, List, [], ◌∷◌, ◌-◌, ◌%◌, ◌&&◌, ◌||◌, ◌==◌, codes, length}
 use Rattle.std.specs.Prelude.{filter, nat_le, slice_get, Option, Some, None, if◌then◌else◌}
 use Rattle.std.specs.{List.list_any, Str.bytes_eq, Option.unwrap_or}
@@ -12,8 +12,8 @@ use Rattle.cs_words.specs.declared.catalogue.More.TheVariants as more
 use Rattle.cs_words.specs.declared.catalogue.Space.TheVariants as space
 use Rattle.cs_words.specs.declared.catalogue.Shape.TheVariants as shape
 
--- what the catalogue says of an opcode: its name, the rates that its result may have (none: it has no result), the
--- letters of the arguments that must be given, what may follow them, and how it is performed
+-- the catalogue's row for an opcode: its name, the rates that its result may have (empty if it has no
+-- result), the letters of the required arguments, the optional arguments, and how it is performed
 pub record Row : Type 0 where
   pub name : List ℕ
   pub results : List Rate
@@ -21,11 +21,12 @@ pub record Row : Type 0 where
   pub more : More
   pub shape : Shape
 
+-- a row with these fields
 abbrev pub row : List ℕ → List Rate → List Letter → More → Shape → Row
 row name results fixed further how =
     record { name = name; results = results; fixed = fixed; more = further; shape = how }
 
--- the results of the catalogue: none, or one of these rates
+-- the lists of result rates that the catalogue uses: none, or one of these rates
 abbrev none : List Rate
 none = []
 
@@ -41,7 +42,7 @@ r_ka = rate.Control ∷ rate.Audio ∷ []
 abbrev r_ika : List Rate
 r_ika = rate.Init ∷ rate.Control ∷ rate.Audio ∷ []
 
--- the letters of the catalogue
+-- the letters that the catalogue uses
 abbrev i : Letter
 i = letter.Init
 
@@ -155,33 +156,33 @@ named name (id ∷ ids) = if bytes_eq name (row_of id).name then Some id else na
 unfoldable pub catalogued : List ℕ → Option Opcode
 catalogued name = named name opcodes
 
--- the letter of an argument after those that must be given, counted from 0
+-- the letter of the optional argument at index n, from 0
 abbrev pub further : More → ℕ → Letter
 further more.Nothing n = letter.Any
 further (more.Perhaps l) n = l
 further (more.Each l) n = l
 further (more.Pairs l m) n = if n % 2 == 0 then l else m
 
--- the letter of an argument, counted from 0
+-- the letter of the argument at index n, from 0
 abbrev pub letter_at : Row → ℕ → Letter
 letter_at r n = unwrap_or (slice_get r.fixed n) (further r.more (n - length r.fixed))
 
--- whether n arguments may follow those that must be given
+-- whether n arguments may follow the required ones
 abbrev pub may_follow : More → ℕ → Bool
 may_follow more.Nothing n = n == 0
 may_follow (more.Perhaps l) n = nat_le n 1
 may_follow (more.Each l) n = true
 may_follow (more.Pairs l m) n = n % 2 == 0
 
--- whether an opcode takes n arguments
+-- whether an opcode accepts n arguments
 abbrev pub takes_count : Row → ℕ → Bool
 takes_count r n = nat_le (length r.fixed) n && may_follow r.more (n - length r.fixed)
 
--- how many results an opcode has: one, or none
+-- the number of results of an opcode: one or none
 abbrev pub result_count : Row → ℕ
 result_count r = if length r.results == 0 then 0 else 1
 
--- A letter takes a value of a rate, where the result's rate is the bound.
+-- Whether the letter accepts a value of rate r; `bound` is the rate of the result.
 abbrev pub takes : Letter → Rate → Rate → Bool
 takes letter.Init bound r = is_init r
 takes letter.Table bound r = is_init r
@@ -192,48 +193,51 @@ takes letter.Held bound r = within r bound
 takes letter.Any bound r = true
 takes letter.Text bound r = false
 
+-- whether the argument must be a quoted text
 abbrev pub is_text : Letter → Bool
 is_text letter.Text = true
 is_text _ = false
 
--- settled: what it takes is known when the note begins
+-- settled: the argument is known when the note begins
 abbrev pub is_settled : Letter → Bool
 is_settled letter.Init = true
 is_settled letter.Table = true
 is_settled _ = false
 
--- moving: what it takes may change while the note sounds
+-- moving: the argument may change while the note sounds
 abbrev pub is_moving : Letter → Bool
 is_moving l = not (is_settled l || is_text l)
 
--- it takes a table's number
+-- whether the argument is a table number
 abbrev pub is_table : Letter → Bool
 is_table letter.Table = true
 is_table _ = false
 
--- whether a table's number is among the arguments that an opcode must be given
+-- whether one of an opcode's required arguments is a table number
 abbrev pub takes_table : Opcode → Bool
 takes_table opcode = list_any is_table (row_of opcode).fixed
 
--- of the arguments that must be given, those that are settled, and those that may change while the note sounds
+-- the letters of the required arguments that are settled
 abbrev pub settled_letters : Row → List Letter
 settled_letters r = filter is_settled r.fixed
 
+-- the letters of the required arguments that may change while the note sounds
 abbrev pub moving_letters : Row → List Letter
 moving_letters r = filter is_moving r.fixed
 
--- whether all that may follow the arguments that must be given is settled
+-- whether all optional arguments are settled
 abbrev pub follows_settled : More → Bool
 follows_settled more.Nothing = true
 follows_settled (more.Perhaps l) = is_settled l
 follows_settled (more.Each l) = is_settled l
 follows_settled (more.Pairs l m) = is_settled l && is_settled m
 
--- whether n settled arguments may follow those that must be given; in no row does a pair mix settled and moving ones
+-- whether n settled arguments may follow the required ones; no row has a pair with one settled and one moving
+-- argument
 abbrev pub may_follow_settled : More → ℕ → Bool
 may_follow_settled m n = if follows_settled m then may_follow m n else n == 0
 
--- whether an opcode takes n settled arguments
+-- whether an opcode accepts n settled arguments
 abbrev pub unit_takes : Row → ℕ → Bool
 unit_takes r n =
     nat_le (length (settled_letters r)) n && may_follow_settled r.more (n - length (settled_letters r))

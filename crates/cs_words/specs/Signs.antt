@@ -1,11 +1,11 @@
--- What each sign is.
+-- The meanings of the signs.
 use Rattle.std.specs.Prelude.{ℕ, Bool, true, false, List, [], ◌∷◌, codes}
 use Rattle.std.specs.Option.{unwrap_or}
 use Rattle.cs_words.specs.{Tables.looked_up, declared.sign.BinOp.BinOp, declared.sign.Sign.Sign}
 use Rattle.cs_words.specs.declared.sign.BinOp.TheVariants as op
 use Rattle.cs_words.specs.declared.sign.Sign.TheVariants as sign
 
--- what each sign is
+-- the meaning of each sign
 abbrev pub signs : List (List ℕ × Sign)
 signs =
     (codes "(", sign.Open) ∷
@@ -30,11 +30,11 @@ signs =
     (codes "%", sign.Operator op.Rem) ∷
     []
 
--- what a sign is: what the list says, or else a sign outside the profile
+-- the meaning of a sign from the list, or a sign that the profile lacks
 unfoldable pub sign_of : List ℕ → Sign
 sign_of bytes = unwrap_or (looked_up signs bytes) sign.Beyond
 
--- `+`, `-`, `*`, `/` and `%`; the other operators give truth values
+-- `+`, `-`, `*`, `/` and `%`; the other operators yield truth values
 abbrev pub is_arithmetic : BinOp → Bool
 is_arithmetic op.Add = true
 is_arithmetic op.Sub = true

@@ -1,4 +1,4 @@
--- What each word is.
+-- The meanings of the words.
 use Rattle.std.specs.Prelude.{ℕ, Bool, List, [], ◌∷◌, ◌+◌, ◌-◌, ◌*◌, ◌&&◌, ◌==◌, codes, Option, Some, None}
 use Rattle.std.specs.{Prelude.if◌then◌else◌, Prelude.nat_le, Str.bytes_eq, Str.byte, List.list_any, Char.is_ascii_digit}
 use Rattle.cs_words.specs.{Catalogue.catalogued, Names.is_name, Tables.looked_up, declared.word.Word.Word}
@@ -8,8 +8,8 @@ use Rattle.cs_words.specs.declared.word.HeadName.TheVariants as head
 use Rattle.cs_words.specs.declared.word.Func.TheVariants as func
 use Rattle.cs_words.specs.declared.word.Word.TheVariants as word
 
--- keywords, which no variable and no opcode may be called; what a header line sets; functions that an expression may
--- call
+-- the keywords, which can't name a variable or an opcode; the header's settings; the functions that an
+-- expression may call
 abbrev pub words : List (List ℕ × Word)
 words =
     (codes "instr", word.Keyword key.Instr) ∷
@@ -36,7 +36,7 @@ words =
     (codes "i", word.Func func.I) ∷
     []
 
--- words of Csound that the profile leaves out
+-- the words of Csound that the profile lacks
 abbrev pub foreign_words : List (List ℕ)
 foreign_words =
     codes "goto" ∷ codes "igoto" ∷ codes "kgoto" ∷ codes "cigoto" ∷ codes "ckgoto" ∷ codes "cngoto" ∷ codes "timout" ∷
@@ -47,21 +47,23 @@ foreign_words =
     codes "exp" ∷ codes "log" ∷ codes "sin" ∷ codes "cos" ∷ codes "tan" ∷ codes "pow" ∷
     []
 
+-- the meaning of a word in the list of keywords, settings and functions
 unfoldable pub listed_word : List ℕ → Option Word
 listed_word bytes = looked_up words bytes
 
+-- whether a word is in the list of words that the profile lacks
 unfoldable pub is_foreign : List ℕ → Bool
 is_foreign bytes = list_any (bytes_eq bytes) foreign_words
 
--- a digit that isn't 0
+-- whether a byte is a digit except 0
 abbrev pub is_leading : ℕ → Bool
 is_leading b = nat_le (byte "1") b && nat_le b (byte "9")
 
--- the number of a digit
+-- the value of a digit
 abbrev pub digit : ℕ → ℕ
 digit b = b - byte "0"
 
--- the number of a field: `p` and a number from 1 to 100 without leading zeros
+-- the number of a field: `p`, followed by a number from 1 to 100 without leading zeros
 unfoldable pub field_of : List ℕ → Option ℕ
 field_of [] = None
 field_of (p ∷ []) = None
@@ -71,21 +73,22 @@ field_of (p ∷ b ∷ c ∷ []) =
 field_of (p ∷ b ∷ c ∷ d ∷ []) = if bytes_eq (p ∷ b ∷ c ∷ d ∷ []) (codes "p100") then Some 100 else None
 field_of (p ∷ b ∷ c ∷ d ∷ e ∷ rest) = None
 
--- a field, or else a name or any other word
+-- a field if there is a number, and otherwise a name or any other word
 abbrev pub field_or : Option ℕ → List ℕ → Word
 field_or (Some k) bytes = word.Field k
 field_or None bytes = if is_name bytes then word.Name else word.Other
 
--- a word that neither list nor catalogue has: foreign, a field, a name, or any other
+-- the meaning of a word that is neither in the list nor in the catalogue: foreign, a field, a name, or any
+-- other
 abbrev pub plain_word : List ℕ → Word
 plain_word bytes = if is_foreign bytes then word.Foreign else field_or (field_of bytes) bytes
 
--- what the list says of a word, or else the catalogue, or else what is left
+-- the entry of the list if there is one, then the opcode if there is one, and otherwise `left`
 abbrev pub first_of : Option Word → Option Opcode → Word → Word
 first_of (Some listed) o left = listed
 first_of None (Some o) left = word.Opcode o
 first_of None None left = left
 
--- what a word is
+-- the meaning of a word
 unfoldable pub word_of : List ℕ → Word
 word_of bytes = first_of (listed_word bytes) (catalogued bytes) (plain_word bytes)

@@ -1,4 +1,4 @@
--- What only clauses of private functions cite.
+-- Definitions that only private clauses use.
 pub mod Rows
 pub mod Tables
 pub mod Indexes

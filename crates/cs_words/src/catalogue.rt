@@ -1,4 +1,4 @@
-// The catalogue: one row an opcode, which says all that the layers above ask of it.
+// The catalogue: one row for each opcode, with everything that the layers above need to know about it.
 ghost use Rattle.std.specs.{Prelude.◌≡◌, Prelude.length, Prelude.filter, List.list_any};
 ghost use Rattle.cs_words.specs.inner.Rows.{first_named, row_in};
 ghost use Rattle.cs_words.specs.Catalogue.{row_of, catalogued, letter_at, takes_count, further, may_follow};
@@ -49,18 +49,18 @@ pub enum Opcode {
     EventI,
 }
 
-/// What an opcode takes as an argument.
+/// The kind of argument that an opcode accepts.
 #[derive(Clone, Copy)]
 pub enum Letter {
     /// `i`: a value that is known when the note begins.
     Init,
-    /// `f`: as `Init`, and it is a table's number.
+    /// `f`: like `Init`, and the value is a table number.
     Table,
-    /// `k`: a value that changes at most once a control cycle, and as `Init` where the result is of the initialisation.
+    /// `k`: a value that changes at most once per control cycle; like `Init` if the result is i-rate.
     Control,
-    /// `p`: as `Control`, and it is a place of the zak space.
+    /// `p`: like `Control`, and the value is a place in the zak space.
     Place,
-    /// `a`: a sound.
+    /// `a`: an audio signal.
     Audio,
     /// `x`: any value that changes no more often than the result.
     Held,
@@ -71,7 +71,7 @@ pub enum Letter {
 }
 
 impl Letter {
-    /// Whether it takes a value of a rate, where the result's rate is the bound.
+    /// Whether the argument may be a value of rate `rate`; `bound` is the rate of the result.
     pub fn takes(self, bound: Rate, rate: Rate) -> bool
         ensures { result ≡ takes self bound rate }
     {
@@ -85,21 +85,21 @@ impl Letter {
         }
     }
 
-    /// Whether it takes a quoted text.
+    /// Whether the argument must be a quoted text.
     pub fn is_text(self) -> bool
         ensures { result ≡ is_text self }
     {
         matches!(self, Letter::Text)
     }
 
-    /// Whether what it takes is known when the note begins.
+    /// Whether the argument is settled: known when the note begins.
     pub fn is_settled(self) -> bool
         ensures { result ≡ is_settled self }
     {
         matches!(self, Letter::Init | Letter::Table)
     }
 
-    /// Whether what it takes may change while the note sounds.
+    /// Whether the argument may change while the note sounds.
     pub fn is_moving(self) -> bool
         ensures { result ≡ is_moving self }
     {
@@ -107,11 +107,11 @@ impl Letter {
     }
 }
 
-/// What may follow the arguments that must be given.
+/// The optional arguments, which follow the required ones.
 #[derive(Clone, Copy)]
 pub enum More {
     Nothing,
-    /// One more argument, or none.
+    /// At most one more argument.
     Perhaps(Letter),
     /// Any number of arguments.
     Each(Letter),
@@ -119,7 +119,7 @@ pub enum More {
     Pairs(Letter, Letter),
 }
 
-/// A zak space: of control values, or of sounds.
+/// A zak space: k-rate or a-rate.
 #[derive(Clone, Copy)]
 pub enum Space {
     Control,
@@ -129,25 +129,25 @@ pub enum Space {
 /// How an opcode is performed.
 #[derive(Clone, Copy)]
 pub enum Shape {
-    /// Sets its variable once, as the note begins.
+    /// Sets its variable once, when the note begins.
     Init,
     /// Computes its result from its arguments and its own state.
     Unit,
     /// Stores into a table.
     Store,
-    /// Adds to the channels from the first on.
+    /// Adds to the output channels, beginning with the first.
     Out,
-    /// Adds to channels by their numbers.
+    /// Adds to output channels, which are selected by number.
     OutAt,
-    /// Ends its note.
+    /// Ends its own note.
     Turnoff,
-    /// Says how large the zak spaces are.
+    /// Sets the sizes of the zak spaces.
     ZakInit,
     /// Reads a zak place.
     ZakGet(Space),
     /// Stores into a zak place.
     ZakPut(Space),
-    /// Adds to a zak place of sounds.
+    /// Adds to an a-rate zak place.
     ZakMix,
     /// Sets zak places to 0.
     ZakClear(Space),
@@ -155,11 +155,11 @@ pub enum Shape {
     ChannelGet,
     /// Stores into a channel.
     ChannelPut,
-    /// Adds to a channel of sounds.
+    /// Adds to an audio channel.
     ChannelMix,
-    /// Sets a channel of sounds to 0.
+    /// Sets an audio channel to 0.
     ChannelClear,
-    /// Asks for a note.
+    /// Schedules a note.
     Ask,
 }
 
@@ -187,7 +187,7 @@ impl Model for Signature {
     } };
 }
 
-// The rates of the table below.
+// The lists of result rates that the catalogue uses.
 const NONE: [Rate; 0] = [];
 
 const CONTROL: [Rate; 1] = [Rate::Control];
@@ -198,7 +198,7 @@ const KA: [Rate; 2] = [Rate::Control, Rate::Audio];
 
 const IKA: [Rate; 3] = [Rate::Init, Rate::Control, Rate::Audio];
 
-// The letters of the table below.
+// The letters that the catalogue uses.
 const I: Letter = Letter::Init;
 
 const F: Letter = Letter::Table;
@@ -215,7 +215,7 @@ const V: Letter = Letter::Any;
 
 const S: Letter = Letter::Text;
 
-// A row of the catalogue, with its opcode.
+// A row of the catalogue with its opcode.
 #[derive(Clone, Copy)]
 struct Entry {
     opcode: Opcode,
@@ -239,7 +239,7 @@ macro_rules! row {
     };
 }
 
-/// The catalogue: every opcode once, in the order of its variants, with its row.
+// The catalogue: every opcode once, in the order of the variants, with its row.
 const CATALOGUE: &[Entry] = &[
     row!(Init: "init", IKA, [I], More::Nothing, Shape::Init),
     row!(Oscil: "oscil", KA, [X, X, F], More::Perhaps(I), Shape::Unit),
@@ -279,7 +279,7 @@ const CATALOGUE: &[Entry] = &[
     row!(EventI: "event_i", NONE, [S, I, I, I], More::Each(I), Shape::Ask),
 ];
 
-/// The row of an opcode.
+/// Returns the row of an opcode.
 pub fn signature_of(opcode: Opcode) -> Signature
     ensures { result ≡ row_of opcode }
 {
@@ -287,7 +287,7 @@ pub fn signature_of(opcode: Opcode) -> Signature
 }
 
 impl Entry {
-    // The row alone.
+    // The row without its opcode.
     fn signature(&self) -> Signature
         ensures { result ≡ row_in self.now }
     {
@@ -302,42 +302,42 @@ impl Entry {
 }
 
 impl Signature {
-    /// The opcode's name in a text.
+    /// Returns the opcode's name.
     pub fn name(&self) -> &'static str
         ensures { result.now ≡ self.now.name }
     {
         self.name
     }
 
-    /// The rates that its result may have; none where it has no result.
+    /// Returns the rates that the result may have; empty if the opcode has no result.
     pub fn results(&self) -> &'static [Rate]
         ensures { result.now ≡ self.now.results }
     {
         self.results
     }
 
-    /// What it takes as the arguments that must be given, in order.
+    /// Returns the letters of the required arguments, in order.
     pub fn fixed(&self) -> &'static [Letter]
         ensures { result.now ≡ self.now.fixed }
     {
         self.fixed
     }
 
-    /// How it is performed.
+    /// Returns how the opcode is performed.
     pub fn shape(&self) -> Shape
         ensures { result ≡ self.now.shape }
     {
         self.shape
     }
 
-    /// How many results it has: 0 or 1.
+    /// Returns the number of results: 0 or 1.
     pub fn result_count(&self) -> usize
         ensures { result ≡ result_count self.now }
     {
         if self.results.is_empty() { 0 } else { 1 }
     }
 
-    /// Whether a table's number is among the arguments that must be given.
+    /// Whether one of the required arguments is a table number.
     pub fn takes_table(&self) -> bool
         ensures { result ≡ list_any is_table self.now.fixed }
     {
@@ -346,14 +346,14 @@ impl Signature {
             .any(|letter| matches!(letter, Letter::Table))
     }
 
-    /// Whether it takes `count` arguments.
+    /// Whether the opcode accepts `count` arguments.
     pub fn takes_count(&self, count: usize) -> bool
         ensures { result ≡ takes_count self.now count }
     {
         count >= self.fixed.len() && self.more.may_follow(count - self.fixed.len())
     }
 
-    /// Whether it takes `count` settled arguments.
+    /// Whether the opcode accepts `count` settled arguments.
     pub fn takes_settled(&self, count: usize) -> bool
         ensures { result ≡ unit_takes self.now count }
     {
@@ -361,7 +361,7 @@ impl Signature {
         count >= least && self.more.may_follow_settled(count - least)
     }
 
-    /// What it takes as the argument at this place, counted from 0; `Letter::Any` past the last that it takes.
+    /// Returns the letter of the argument at index `place`, from 0; `Letter::Any` beyond the last argument.
     pub fn letter(&self, place: usize) -> Letter
         ensures { result ≡ letter_at self.now place }
     {
@@ -372,7 +372,7 @@ impl Signature {
     }
 }
 
-// How many of these letters are settled.
+// The number of settled letters.
 fn settled_among(letters: &[Letter]) -> usize
     ensures { result ≡ length (filter is_settled letters.now) }
 {
@@ -380,7 +380,7 @@ fn settled_among(letters: &[Letter]) -> usize
 }
 
 impl More {
-    /// Whether `count` arguments may follow those that must be given.
+    // Whether `count` arguments may follow the required ones.
     fn may_follow(self, count: usize) -> bool
         ensures { result ≡ may_follow self count }
     {
@@ -392,7 +392,7 @@ impl More {
         }
     }
 
-    /// Whether `count` settled arguments may follow those that must be given.
+    // Whether `count` settled arguments may follow the required ones.
     fn may_follow_settled(self, count: usize) -> bool
         ensures { result ≡ may_follow_settled self count }
     {
@@ -404,7 +404,7 @@ impl More {
         }
     }
 
-    /// The letter of an argument after those that must be given, counted from 0.
+    // The letter of the optional argument at index `place`, from 0.
     fn letter(self, place: usize) -> Letter
         ensures { result ≡ further self place }
     {
@@ -417,7 +417,7 @@ impl More {
 }
 
 impl Opcode {
-    /// Its name in a text.
+    /// Returns the opcode's name.
     pub fn name(self) -> &'static str
         ensures { result.now ≡ (row_of self).name }
     {
@@ -425,7 +425,7 @@ impl Opcode {
     }
 }
 
-/// The opcode of that name.
+/// Returns the opcode with this name, or `None` if there is none.
 #[tactic(auto, unfolding(crate::specs::Catalogue::catalogued))]
 pub fn find_opcode(name: &[u8]) -> Option<Opcode>
     ensures { result ≡ catalogued name.now }

@@ -1,4 +1,4 @@
-// What holds of the tables: calls that do nothing, whose contracts are the laws.
+// Properties of the tables: functions that do nothing, and whose contracts are the laws.
 ghost use Rattle.std.specs.Prelude.{◌≡◌, ◌≤◌, ℕ, List, [], ◌∷◌, filter, length, true, false, slice_get, Some};
 ghost use Rattle.std.specs.List.{All};
 ghost use Rattle.cs_base.specs.Limits.{greatest_field};
@@ -10,7 +10,7 @@ ghost use Rattle.cs_words.specs.declared.catalogue.Opcode.{Opcode};
 ghost use Rattle.cs_words.specs.declared.catalogue.Opcode.TheVariants as op;
 ghost use Rattle.cs_words.specs.declared.word.Word.TheVariants as word;
 
-/// Each row of each table is found as itself, so that no word is in two tables, or twice in one.
+/// Looking up the word of each row finds that row, so no word is in two tables, or twice in one.
 pub fn words_are_apart()
     ensures opcodes { (o : Opcode) → word_of (row_of o).name ≡ word.Opcode o }
     ensures catalogue { (o : Opcode) → catalogued (row_of o).name ≡ Some o }
@@ -21,13 +21,14 @@ pub fn words_are_apart()
     ensures signs { All (λ r. sign_of r.0 ≡ r.1) signs }
 {}
 
-/// What is read as a name begins like a variable, and a field's number is from 1 to 100.
+/// Every word that is read as a name begins like a variable, and the number of a field is from 1 to 100.
 pub fn names_are_letters_of_rates()
     ensures name { (w : List ℕ) → word_of w ≡ word.Name → is_name w ≡ true }
     ensures field { (w : List ℕ) (k : ℕ) → word_of w ≡ word.Field k → (1 ≤ k) × (k ≤ greatest_field) }
 {}
 
-/// A name's place finds it again, no two names have one place, and a name that is seen later moves no other.
+/// The index of a name leads back to the name, no two names have the same index, and adding a name changes no
+/// earlier index.
 pub fn names_have_places()
     ensures found { (names : List (List ℕ)) (n : List ℕ)
         → has names n ≡ true → slice_get names (place_of names n) ≡ Some n }
@@ -42,8 +43,9 @@ pub fn names_have_places()
         → has names m ≡ true → place_of (seen names n) m ≡ place_of names m }
 {}
 
-/// How many settled arguments some opcodes take, computed by the definitions: `oscil` a table and perhaps a phase,
-/// `linseg` three numbers and any number of pairs, `linen` its three durations, `out` none.
+/// The numbers of settled arguments that some opcodes accept, computed with the definitions: `oscil` a table
+/// and an optional phase, `linseg` three numbers and any number of pairs, `linen` its three durations, `out`
+/// none.
 pub fn settled_arguments()
     ensures oscil { (unit_takes (row_of op.Oscil) 0 ≡ false) × (unit_takes (row_of op.Oscil) 1 ≡ true)
         × (unit_takes (row_of op.Oscil) 2 ≡ true) × (unit_takes (row_of op.Oscil) 3 ≡ false) }
@@ -53,7 +55,8 @@ pub fn settled_arguments()
     ensures out { (unit_takes (row_of op.Out) 0 ≡ true) × (unit_takes (row_of op.Out) 1 ≡ false) }
 {}
 
-/// The opcodes that take a table, computed by the definitions: `oscil`, `oscili`, `table`, `tablei` and `tablew`.
+/// The opcodes that require a table, computed with the definitions: `oscil`, `oscili`, `table`, `tablei` and
+/// `tablew`.
 pub fn opcodes_with_tables()
     ensures { filter takes_table opcodes ≡ op.Oscil ∷ op.Oscili ∷ op.Table ∷ op.Tablei ∷ op.Tablew ∷ [] }
 {}

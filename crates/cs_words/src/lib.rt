@@ -1,13 +1,15 @@
-//! The words of the language: what each word and each sign of an orchestra is, before any of its grammar.
+//! The words of the language: the meaning of each word and each sign of an orchestra, independent of the
+//! grammar.
 //!
-//! Its one contract: each call returns what its list in specs/ says, and every row of a list is found as itself: no two
-//! opcodes share a name, and no keyword is a header name, a function or an opcode (`words_are_apart`). The catalogue
-//! has one row an opcode, which says all that the layers above ask of it: name, results, arguments, and how it is
-//! performed. How a word is looked up may be changed without anyone above noticing.
+//! Its one contract: each call returns the result that its list in specs/ states, and every row of a list is
+//! found when its word is looked up: no two opcodes share a name, and no keyword is a header name, a function
+//! or an opcode (`words_are_apart`). The catalogue has one row for each opcode, with everything that the
+//! layers above need: its name, its results, its arguments, and how it is performed. How a word is looked up
+//! may change without anyone above noticing.
 //!
-//! To be read in this order: `catalogue` (the opcodes), `word` (what a word is), `sign` (what a sign is), `name` (what
-//! a variable's name says), `name_set` (different names in the order in which they were seen), `laws` (what holds of
-//! the tables), `table` (how a row is found).
+//! In reading order: `catalogue` (the opcodes), `word` (the meaning of a word), `sign` (the meaning of a
+//! sign), `name` (the rate and scope in a variable's name), `name_set` (different names in the order of their
+//! first appearance), `laws` (properties of the tables), `table` (how a row is found).
 #![tactic(auto)]
 
 mod catalogue;

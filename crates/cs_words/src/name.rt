@@ -1,17 +1,17 @@
-// What a variable's name says by its first letters: its rate, and whether notes share it.
+// The first letters of a variable's name, which determine its rate and whether all notes share it.
 ghost use Rattle.std.specs.Prelude.{◌≡◌};
 ghost use Rattle.cs_words.specs.Names.{is_rate_letter, letter_rate, is_name, is_global, name_rate};
 
 use cs_base::Rate;
 
-/// The letters for the rates: i, k and a.
+/// Whether a byte is a letter for a rate: i, k or a.
 pub fn is_rate_letter(byte: u8) -> bool
     ensures { result ≡ is_rate_letter byte }
 {
     byte == b'i' || byte == b'k' || byte == b'a'
 }
 
-/// The rate of a letter: i is once a note, k once a control cycle, any other once a frame.
+/// Returns the rate of a letter: i-rate for i, k-rate for k, and a-rate for any other.
 pub fn letter_rate(byte: u8) -> Rate
     ensures { result ≡ letter_rate byte }
 {
@@ -33,15 +33,15 @@ pub fn is_name(word: &[u8]) -> bool
     }
 }
 
-/// Whether all notes share the variable of this name: it begins with g.
+/// Whether all notes share the variable with this name: the name begins with g.
 pub fn is_global(name: &[u8]) -> bool
     ensures { result ≡ is_global name.now }
 {
     matches!(name, [b'g', ..])
 }
 
-/// The rate of a variable, by the first letter of its name, or the second of a global one. What is no name has
-/// the audio rate where no letter tells another.
+/// Returns the rate of a variable, from the first letter of its name, or from the second if the name begins
+/// with g. The rate of a word that is no name is the a-rate, unless the letter in that position is i or k.
 pub fn name_rate(name: &[u8]) -> Rate
     ensures { result ≡ name_rate name.now }
 {

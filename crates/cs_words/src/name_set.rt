@@ -1,4 +1,4 @@
-// Different names, in the order in which they were first seen.
+// Different names, in the order of their first appearance.
 ghost use Rattle.std.specs.Prelude.{◌≡◌, [], length, OnOk, OnErr, IfOk};
 ghost use Rattle.cs_words.specs.NameSets.{has, place_of, seen};
 
@@ -7,7 +7,7 @@ use std::alloc::Global;
 use std::collections::BTreeMap;
 use std::marker::Model;
 
-/// Different names of a text, in the order in which they were first seen.
+/// Different names of a text, in the order of their first appearance.
 #[derive(Drop)]
 pub struct NameSet<'s> {
     names: Vec<&'s [u8]>,
@@ -26,7 +26,7 @@ impl<'s> Model for NameSet<'s> {
 }
 
 impl<'s> NameSet<'s> {
-    /// No names.
+    /// Returns an empty set.
     pub fn new(alloc: Global) -> NameSet<'s>
         ensures { result ≡ [] }
     {
@@ -36,28 +36,28 @@ impl<'s> NameSet<'s> {
         }
     }
 
-    /// Whether a name is among these.
+    /// Whether the set contains `name`.
     pub fn has(&self, name: &[u8]) -> bool
         ensures { result ≡ has self.now name.now }
     {
         self.places.contains_key(name)
     }
 
-    /// The place of a name, counted from 0, or their number where it isn't among them.
+    /// Returns the index of a name, from 0, or the number of names if the set doesn't contain it.
     pub fn place(&self, name: &[u8]) -> usize
         ensures { result ≡ place_of self.now name.now }
     {
         self.places.get(name).copied().unwrap_or(self.names.len())
     }
 
-    /// How many names there are.
+    /// Returns the number of names.
     pub fn len(&self) -> usize
         ensures { result ≡ length self.now }
     {
         self.names.len()
     }
 
-    /// Adds a name at the end, unless it is among these; where memory is refused, nothing is added.
+    /// Adds a name at the end, unless the set contains it. If memory runs out, the set is unchanged.
     pub fn add(&mut self, name: &'s [u8]) -> Result<(), OutOfMemory>
         ensures ok { OnOk result (self.new ≡ seen self.old name.now) }
         ensures err { OnErr result (self.new ≡ self.old) }
@@ -74,7 +74,7 @@ impl<'s> NameSet<'s> {
         Ok(())
     }
 
-    /// The names in their order, copied out of the text.
+    /// Returns the names in order, copied from the text.
     pub fn to_names(&self, alloc: Global) -> Result<Names, OutOfMemory>
         ensures { IfOk result (λ made. made ≡ self.now) }
     {

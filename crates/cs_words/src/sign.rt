@@ -1,4 +1,4 @@
-// Which sign is what.
+// The meanings of the signs.
 ghost use Rattle.std.specs.Prelude.{◌≡◌};
 ghost use Rattle.cs_words.specs.Signs.{sign_of, is_arithmetic, is_logic};
 
@@ -23,7 +23,7 @@ pub enum BinOp {
 }
 
 impl BinOp {
-    /// Whether it is `+`, `-`, `*`, `/` or `%`; the other operators give truth values.
+    /// Whether this is `+`, `-`, `*`, `/` or `%`; the other operators yield truth values.
     pub fn is_arithmetic(self) -> bool
         ensures { result ≡ is_arithmetic self }
     {
@@ -33,7 +33,7 @@ impl BinOp {
         )
     }
 
-    /// Whether it is `&&` or `||`.
+    /// Whether this is `&&` or `||`.
     pub fn is_logic(self) -> bool
         ensures { result ≡ is_logic self }
     {
@@ -41,7 +41,7 @@ impl BinOp {
     }
 }
 
-/// What a sign is.
+/// The meaning of a sign.
 #[derive(Clone, Copy, PartialEq, Eq)]
 pub enum Sign {
     Open,
@@ -52,7 +52,7 @@ pub enum Sign {
     Question,
     Colon,
     Operator(BinOp),
-    /// A sign outside the profile.
+    /// A sign that the profile lacks.
     Beyond,
 }
 
@@ -79,7 +79,7 @@ const SIGNS: [(&str, Sign); 20] = [
     ("%", Sign::Operator(BinOp::Rem)),
 ];
 
-/// What a sign is.
+/// Returns the meaning of a sign.
 #[tactic(auto, unfolding(crate::specs::Signs::sign_of))]
 pub fn sign_of(sign: &[u8]) -> Sign
     ensures { result ≡ sign_of sign.now }

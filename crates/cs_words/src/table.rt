@@ -2,7 +2,7 @@
 ghost use Rattle.std.specs.Prelude.{◌≡◌};
 ghost use Rattle.cs_words.specs.{Tables.looked_up, inner.Tables.rows};
 
-/// The value of the first row with this spelling.
+/// Returns the value of the first row with this spelling, or `None` if there is none.
 pub fn looked_up<T: Copy>(table: &[(&str, T)], bytes: &[u8]) -> Option<T>
     ensures { result ≡ looked_up (rows table.now) bytes.now }
 {

@@ -1,4 +1,4 @@
-// Which word is what.
+// The meanings of the words.
 ghost use Rattle.std.specs.{Prelude.◌≡◌, List.list_any, Str.bytes_eq};
 ghost use Rattle.cs_words.specs.Words.{listed_word, is_foreign, is_leading, field_of, word_of};
 
@@ -6,7 +6,7 @@ use crate::catalogue::{Opcode, find_opcode};
 use crate::name::is_name;
 use crate::table::looked_up;
 
-/// The words that no variable and no opcode may be called.
+/// The keywords, which can't name a variable or an opcode.
 #[derive(Clone, Copy, PartialEq, Eq)]
 pub enum Keyword {
     Instr,
@@ -22,16 +22,16 @@ pub enum Keyword {
     Xout,
 }
 
-/// What a header line sets, and what an expression may read.
+/// A setting of the header, which an expression may also read.
 #[derive(Clone, Copy, PartialEq, Eq)]
 pub enum HeadName {
-    /// Frames a second.
+    /// Frames per second.
     Sr,
-    /// Control cycles a second.
+    /// Control cycles per second.
     Kr,
-    /// Frames a control cycle.
+    /// Frames per control cycle.
     Ksmps,
-    /// Channels.
+    /// Number of channels.
     Nchnls,
     /// The value of full scale.
     Dbfs,
@@ -48,16 +48,16 @@ pub enum Func {
     I,
 }
 
-/// What a word is.
+/// The meaning of a word.
 #[derive(Clone, Copy, PartialEq, Eq)]
 pub enum Word {
     Keyword(Keyword),
     Header(HeadName),
     Func(Func),
     Opcode(Opcode),
-    /// A word of Csound that the profile leaves out.
+    /// A word of Csound that the profile lacks.
     Foreign,
-    /// `p1` to `p100`, by its number.
+    /// `p1` to `p100`, with its number.
     Field(u32),
     /// A word that begins like a variable: with i, k, a, gi, gk or ga.
     Name,
@@ -65,7 +65,7 @@ pub enum Word {
     Other,
 }
 
-/// Keywords, what header lines set, and functions.
+// The keywords, the header's settings, and the functions.
 const WORDS: [(&str, Word); 22] = [
     ("instr", Word::Keyword(Keyword::Instr)),
     ("endin", Word::Keyword(Keyword::Endin)),
@@ -91,7 +91,7 @@ const WORDS: [(&str, Word); 22] = [
     ("i", Word::Func(Func::I)),
 ];
 
-/// The words of Csound that the profile leaves out.
+// The words of Csound that the profile lacks.
 const FOREIGN: [&str; 41] = [
     "goto", "igoto", "kgoto", "cigoto", "ckgoto", "cngoto", "timout", "reinit", "rigoto",
     "rireturn", "while", "until", "do", "od", "fi", "ithen", "kthen", "turnoff2", "event", "ftgen",
@@ -99,7 +99,7 @@ const FOREIGN: [&str; 41] = [
     "randh", "ampdb", "ampdbfs", "dbamp", "sqrt", "exp", "log", "sin", "cos", "tan", "pow",
 ];
 
-/// What a word is.
+/// Returns the meaning of a word.
 #[tactic(auto, unfolding(crate::specs::Words::word_of))]
 pub fn word_of(word: &[u8]) -> Word
     ensures { result ≡ word_of word.now }
@@ -140,7 +140,7 @@ fn is_listed(words: &[&str], word: &[u8]) -> bool
     words.iter().any(|listed| word == listed.as_bytes())
 }
 
-// The number of a field: `p` and a number from 1 to 100 without leading zeros.
+// The number of a field: `p`, followed by a number from 1 to 100 without leading zeros.
 #[tactic(auto, unfolding(crate::specs::Words::field_of))]
 fn field_of(word: &[u8]) -> Option<u32>
     ensures { result ≡ field_of word.now }

@@ -1,4 +1,4 @@
-// The calls made on an object in memory, as long as memory suffices to keep them.
+// The calls made on an object in memory, as long as memory suffices to store them.
 ghost use Rattle.std.specs.Prelude.{◌≡◌, [], Some, IfOk};
 ghost use Rattle.cs_edge.specs.{Told.Follows, Moves.GrownBy, Memory.told_moves, declared.moves.Move.TheVariants.Begin};
 
@@ -6,7 +6,7 @@ use crate::Move;
 use cs_base::{Items, Text};
 use std::alloc::{AllocError, Global};
 
-/// The moves so far, and whether they are all there.
+/// The calls so far, and whether all of them are stored.
 #[derive(Drop)]
 pub struct Kept {
     pub alloc: Global,
@@ -15,7 +15,7 @@ pub struct Kept {
 }
 
 impl Kept {
-    /// No move yet. It takes no memory.
+    /// Returns an empty list of calls. It allocates nothing yet.
     pub fn new(alloc: Global) -> Kept
         ensures { told_moves result ≡ Some [] }
     {
@@ -26,7 +26,7 @@ impl Kept {
         }
     }
 
-    /// Keeps one more move; where memory is refused, none is told from then on.
+    /// Stores one more call. If memory runs out, no calls are told from then on.
     pub fn add(&mut self, made: Move)
         ensures { Follows (told_moves self.old) (told_moves self.new) (GrownBy made) }
     {
@@ -35,7 +35,7 @@ impl Kept {
         }
     }
 
-    /// Keeps a begin of that name.
+    /// Stores a `begin` with this name.
     pub fn add_begin(&mut self, name: &str)
         ensures { Follows (told_moves self.old) (told_moves self.new) (GrownBy (Begin name.now)) }
     {
@@ -46,7 +46,7 @@ impl Kept {
     }
 }
 
-/// A copy of a name.
+/// Returns a copy of a name.
 pub fn text_of(alloc: Global, name: &str) -> Result<Text, AllocError>
     ensures { IfOk result (λ text. text ≡ name.now) }
 {

@@ -1,10 +1,10 @@
-// A file of a list of files, by name and by place.
+// Finds a file in a list of files, by name and by index.
 ghost use Rattle.std.specs.Prelude.{◌≡◌, ◌-◌, length, min, take, drop, Some, None, MatchOption};
 ghost use Rattle.cs_edge.specs.{Files.file_named, Memory.bytes_at};
 
 use crate::NamedBytes;
 
-/// The place of the first file of that name.
+/// Returns the index of the first file with this name, or `None` if there is none.
 pub fn place_in(files: &[NamedBytes], name: &str) -> Option<usize>
     ensures { MatchOption result (file_named name.now files.now ≡ None)
         (λ place. file_named name.now files.now ≡ Some (bytes_at (Some place) files.now)) }
@@ -17,7 +17,7 @@ pub fn place_in(files: &[NamedBytes], name: &str) -> Option<usize>
     None
 }
 
-/// The bytes of the file at a place, and none for no place.
+/// Returns the bytes of the file at index `place`; empty for `None`.
 pub fn bytes_of(files: &[NamedBytes], place: Option<usize>) -> &[u8]
     ensures { result.now ≡ bytes_at place files.now }
 {
@@ -31,7 +31,8 @@ pub fn bytes_of(files: &[NamedBytes], place: Option<usize>) -> &[u8]
     }
 }
 
-/// Copies what follows the place `at` into the buffer, as much as there is and fits, and returns how much.
+/// Copies as many bytes as there are and as fit, from index `at` of `bytes` on, into the buffer, and returns
+/// their number.
 pub fn copy_front(bytes: &[u8], at: usize, buf: &mut [u8]) -> usize
     ensures count { result ≡ min (length buf.old) (length bytes.now - at) }
     ensures taken { take result buf.new ≡ take result (drop at bytes.now) }

@@ -11,7 +11,8 @@ use crate::fakes::script::Script;
 use crate::{Calls, Failed, Files, Move, Shelf};
 use std::alloc::Global;
 
-/// Files in memory. It tells them, what is left of the file begun and, while memory suffices, the calls made on it.
+/// Files in memory. The shelf tells the files, the bytes left of the file begun and, while memory suffices,
+/// the calls made on it.
 #[derive(Drop)]
 pub struct MemShelf {
     files: Files,
@@ -22,8 +23,8 @@ pub struct MemShelf {
 }
 
 impl MemShelf {
-    /// A shelf of these files, whose calls with these numbers, from 1, fail. It takes no memory, and keeps `alloc`
-    /// for the list of its moves.
+    /// Returns a shelf of these files; the calls whose numbers, from 1, are in `failing` fail. It allocates
+    /// nothing yet, and keeps `alloc` for the list of calls.
     pub fn new(alloc: Global, files: Files, failing: Calls) -> MemShelf
         ensures told { shelf_told result ≡ record { files = Some files; left = Some []; moves = Some []; faults = 0 } }
         ensures script { shelf_script result ≡ record { failing = failing; calls = 0; faults = 0 } }
@@ -37,7 +38,7 @@ impl MemShelf {
         }
     }
 
-    /// The calls made on it, as far as they were kept.
+    /// Returns the calls made on the shelf, as far as they are stored.
     pub fn moves(&self) -> &[Move]
         ensures kept { result.now ≡ shelf_moves self.now }
         ensures told { IfSome (shelf_told self.now).moves (λ moves. result.now ≡ moves) }

@@ -13,7 +13,8 @@ use crate::fakes::taken::Taken;
 use crate::{Calls, Failed, Move, Sink};
 use std::alloc::Global;
 
-/// Bytes in memory. While memory suffices it tells the name begun with the bytes taken, and the calls made on it.
+/// Bytes in memory. While memory suffices, the sink tells the name begun with the bytes taken, and the calls
+/// made on it.
 #[derive(Drop)]
 pub struct MemSink {
     taken: Taken,
@@ -23,8 +24,8 @@ pub struct MemSink {
 }
 
 impl MemSink {
-    /// A sink whose calls with these numbers, from 1, fail, and that takes at most `most` bytes in one write.
-    /// It takes no memory, and keeps `alloc` for its growths.
+    /// Returns a sink that takes at most `most` bytes in one write; the calls whose numbers, from 1, are in
+    /// `failing` fail. It allocates nothing yet, and keeps `alloc` for its growth.
     pub fn new(alloc: Global, failing: Calls, most: u32) -> MemSink
         requires { 1 ≤ most }
         ensures told { sink_told result ≡ record { held = Some no_file; moves = Some []; faults = 0 } }
@@ -39,7 +40,7 @@ impl MemSink {
         }
     }
 
-    /// The bytes taken since the last begin, as far as they were kept.
+    /// Returns the bytes taken since the last `begin`, as far as they are stored.
     pub fn taken(&self) -> &[u8]
         ensures kept { result.now ≡ sink_bytes self.now }
         ensures told { IfSome (sink_told self.now).held (λ held. result.now ≡ held.bytes) }
@@ -47,7 +48,7 @@ impl MemSink {
         &self.taken.bytes
     }
 
-    /// The calls made on it, as far as they were kept.
+    /// Returns the calls made on the sink, as far as they are stored.
     pub fn moves(&self) -> &[Move]
         ensures kept { result.now ≡ sink_moves self.now }
         ensures told { IfSome (sink_told self.now).moves (λ moves. result.now ≡ moves) }

@@ -7,7 +7,7 @@ use crate::page::{add_number, add_piece, add_signed};
 use cs_base::OutOfMemory;
 use std::alloc::Global;
 
-/// A meter that keeps the first values of the mix, and counts all of them.
+/// A meter that stores the first values of the mix, and counts all of them.
 #[derive(Drop)]
 pub struct MirrorTap {
     block: Vec<i64>,
@@ -16,7 +16,7 @@ pub struct MirrorTap {
 }
 
 impl MirrorTap {
-    /// A mirror with room for `room` values. It stands for no values.
+    /// Returns a mirror with room for `room` values, which represents the empty list.
     pub fn new(alloc: Global, room: u32) -> Result<MirrorTap, OutOfMemory>
         ensures none { IfOk result (λ t. ⟦<MirrorTap as Tap>⟧.stands_for t []) }
         ensures room { IfOk result (λ t. room_of t ≡ room) }
@@ -28,21 +28,21 @@ impl MirrorTap {
         })
     }
 
-    /// The first values that it was told, as many as it has room for.
+    /// Returns the first values of the mix, as many as the mirror has room for.
     pub fn kept(&self) -> &[i64]
         ensures { result.now ≡ kept_of self.now }
     {
         &self.block[..self.used.min(self.block.len())]
     }
 
-    /// How many values it was told; it stays at 2^64 - 1.
+    /// Returns the number of values of the mix; the count stays at 2^64 - 1 when it gets there.
     pub fn count(&self) -> u64
         ensures { result ≡ count_of self.now }
     {
         self.count
     }
 
-    /// Keeps a value where there is room, and counts it.
+    // Stores a value if there is room, and counts it.
     fn tell(&mut self, z: i64)
         ensures mirror { (h : List ℤ) → IsMirrorOf (room_of self.old) (kept_of self.old) (count_of self.old) h
             → IsMirrorOf (room_of self.new) (kept_of self.new) (count_of self.new) (h ++ z ∷ []) }
@@ -79,7 +79,7 @@ impl Tap for MirrorTap {
     }
 }
 
-/// Writes the line of a mirror at the front of the buffer, where it fits.
+// Writes a mirror's line at the start of the buffer, if it fits.
 fn put_mirror(out: &mut [u8], kept: &[i64], count: u64) -> Option<usize>
     ensures { Shows result out.new (mirror_line kept.now count) }
 {

@@ -1,9 +1,9 @@
-// Objects that serve tests: files, sinks and a meter that are kept in memory, and calls of them that fail as a script
-// says. The program makes none of them.
+// Objects for tests: files, sinks and a meter in memory, whose calls fail according to a script. The program
+// uses none of them.
 //
-// In reading order: `script` (which calls are to fail), `kept`, `lookup`, `mem_shelf`, `sure_shelf`, `taken`,
-// `portion`, `mem_sink`, `sure_sink`, `sure` (the law of those that never fail), `mirror` (a meter that keeps what it
-// is told).
+// In reading order: `script` (the calls that are to fail), `kept`, `lookup`, `mem_shelf`, `sure_shelf`,
+// `taken`, `portion`, `mem_sink`, `sure_sink`, `sure` (the law of the objects that never fail), `mirror` (a
+// meter that stores the values of the mix).
 
 mod kept;
 mod lookup;

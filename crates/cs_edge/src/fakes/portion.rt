@@ -1,6 +1,6 @@
 ghost use Rattle.std.specs.Prelude.{◌≡◌, ◌≤◌, ◌<◌, min};
 
-/// The most bytes that a sink takes in one write, at least 1.
+/// The most bytes that a sink accepts in one write, at least 1.
 #[derive(Drop)]
 pub struct Portion {
     pub most: u32,
@@ -8,7 +8,7 @@ pub struct Portion {
 }
 
 impl Portion {
-    /// How many bytes of a piece of that length are taken.
+    /// Returns how many bytes of a piece of `length` bytes are accepted.
     pub fn of(&self, length: usize) -> usize
         ensures taken { result ≡ min length self.now.most }
         ensures some { 0 < length → 0 < result }

@@ -4,7 +4,7 @@ ghost use Rattle.cs_edge.specs.{Told.Rose, Memory.next_call};
 
 use crate::Calls;
 
-/// The calls that are to fail, how many were made, and how many failed.
+/// The calls that are to fail, the number of calls made, and the number of calls that failed.
 #[derive(Drop)]
 pub struct Script {
     pub failing: Calls,
@@ -13,7 +13,7 @@ pub struct Script {
 }
 
 impl Script {
-    /// No call was made yet.
+    /// Returns a script before any call.
     pub fn new(failing: Calls) -> Script
         ensures { result ≡ record { failing = failing; calls = 0; faults = 0 } }
     {
@@ -24,7 +24,7 @@ impl Script {
         }
     }
 
-    /// Counts a call, and says whether it is one of those that fail.
+    /// Counts a call, and returns whether it must fail.
     pub fn call_fails(&mut self) -> bool
         ensures calls { self.new.calls ≡ next_call self.old.calls }
         ensures listed { IsTrue result ↔ Contains self.old.failing self.new.calls }

@@ -4,7 +4,8 @@ ghost use Rattle.cs_edge.specs.Memory.{bytes_at};
 use crate::fakes::lookup::{bytes_of, copy_front, place_in};
 use crate::{Failed, Files, Shelf};
 
-/// Files in memory, of which no call ever fails. It tells them and what is left, and no calls.
+/// Files in memory whose calls never fail. The shelf tells the files and the bytes left of the file begun,
+/// but no calls.
 #[derive(Drop)]
 pub struct SureShelf {
     files: Files,
@@ -13,7 +14,7 @@ pub struct SureShelf {
 }
 
 impl SureShelf {
-    /// A shelf of these files. It takes no memory.
+    /// Returns a shelf of these files. It allocates nothing.
     pub fn new(files: Files) -> SureShelf
         ensures { ⟦<SureShelf as Shelf>⟧.tells result
             ≡ record { files = Some files; left = Some []; moves = None; faults = 0 } }

@@ -2,11 +2,12 @@ ghost use Rattle.std.specs.Prelude.{None};
 
 use crate::{Failed, Sink};
 
-/// A sink that takes everything, keeps and tells nothing, and never fails.
+/// A sink that accepts everything, stores and tells nothing, and never fails.
 #[derive(Clone, Copy)]
 pub struct SureSink {}
 
 impl SureSink {
+    /// Returns a sink.
     pub fn new() -> SureSink {
         SureSink {}
     }

@@ -1,4 +1,4 @@
-// What a sink in memory holds, as long as memory suffices to keep it.
+// The contents of a sink in memory, as long as memory suffices to store them.
 ghost use Rattle.std.specs.Prelude.{◌≡◌, [], Some, None};
 ghost use Rattle.cs_edge.specs.{Told.Follows, Memory.told_taken};
 ghost use Rattle.cs_edge.specs.Moves.{TakenMore, IsEnded, no_file, open_file};
@@ -7,7 +7,8 @@ use crate::fakes::kept::text_of;
 use cs_base::Text;
 use std::alloc::Global;
 
-/// The name begun, the bytes taken since and whether it was ended since, and whether they are all there.
+/// The name begun, the bytes taken since, whether the file was ended since, and whether all of this is
+/// stored.
 #[derive(Drop)]
 pub struct Taken {
     pub alloc: Global,
@@ -18,7 +19,7 @@ pub struct Taken {
 }
 
 impl Taken {
-    /// No name and no bytes. It takes no memory.
+    /// Returns an empty state: no name and no bytes. It allocates nothing.
     pub fn new(alloc: Global) -> Taken
         ensures { told_taken result ≡ Some no_file }
     {
@@ -31,7 +32,7 @@ impl Taken {
         }
     }
 
-    /// Lets go of the name and the bytes.
+    /// Drops the name and the bytes.
     pub fn clear(&mut self)
         ensures { Follows (told_taken self.old) (told_taken self.new) (λ _ now. now ≡ no_file) }
     {
@@ -40,7 +41,7 @@ impl Taken {
         self.ended = false;
     }
 
-    /// Begins a name, with no bytes; where memory is refused, nothing is told from then on.
+    /// Begins a file with this name and no bytes. If memory runs out, nothing is told from then on.
     pub fn begin(&mut self, name: &str)
         ensures { Follows (told_taken self.old) (told_taken self.new) (λ _ now. now ≡ open_file name.now []) }
     {
@@ -51,7 +52,7 @@ impl Taken {
         }
     }
 
-    /// Takes these bytes more; where memory is refused, nothing is told from then on.
+    /// Appends these bytes. If memory runs out, nothing is told from then on.
     pub fn add(&mut self, piece: &[u8])
         ensures { Follows (told_taken self.old) (told_taken self.new) (TakenMore piece.now) }
     {
@@ -60,7 +61,7 @@ impl Taken {
         }
     }
 
-    /// Is ended.
+    /// Marks the file as ended.
     pub fn end(&mut self)
         ensures { Follows (told_taken self.old) (told_taken self.new) IsEnded }
     {

@@ -4,7 +4,7 @@ use Rattle.cs_base.specs.{Widths.bytes_of, declared.width.SampleWidth.SampleWidt
 use Rattle.cs_wav.specs.Wav.{is_out_of_range, samples_of}
 use Rattle.cs_wav.proofs.block.each_sample.Given as goal
 
--- the samples so far stand at the front, and those of them that were brought in are counted
+-- the samples so far are at the beginning, and the clipped ones among them are counted
 pub record IsSoFar (w : SampleWidth) (dbfs : ℤ) (mix : List ℤ) (out : List ℕ) (brought_in i : ℕ) : Type 0 where
   pub size : length out ≡ length mix * bytes_of w
   pub written : take (i * bytes_of w) out ≡ samples_of w dbfs (take i mix)

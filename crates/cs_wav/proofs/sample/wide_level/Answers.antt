@@ -5,7 +5,7 @@ use Rattle.std.specs.Int.{int_div_euclid}
 use mir.Syntax.{w128}
 use Rattle.cs_wav.proofs.sample.wide_level.Goals as goal
 
--- the quotient is the exact one, of less than 63 bits
+-- the quotient is exact and has fewer than 63 bits
 quotient : (c : goal.After-div_euclid)
     → (c.div_euclid.result ≡ int_div_euclid (c.args.value *ℤ c.args.full) c.args.dbfs)
     × (unsigned_abs c.div_euclid.result < 2 ^ 62)
