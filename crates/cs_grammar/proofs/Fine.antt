@@ -1,4 +1,5 @@
--- What is read is sound, and what is left keeps what held of the symbols before: the parts of a line.
+-- Whatever is read is well formed, and the remaining symbols keep the property of all symbols: the parts of a
+-- line.
 use Rattle.std.proofs.Common.{◌≡◌, ◌≢◌, ◌∙◌, ◌&&◌, not, ℕ, Bool, true, false, List, [], ◌∷◌, Some, None, Ok, Err}
 use Rattle.std.proofs.Common.{if◌then◌else◌, refl, sym, ap, subst}
 use Rattle.std.specs.List.{All}
@@ -21,26 +22,28 @@ use Rattle.cs_grammar.specs.Grammar.{ReadsExpr, binary, expr_stop, fact_neg, fac
 use Rattle.cs_grammar.specs.Grammar.{fact_alone, ReadsTail, no_more, one_more, one_alone, ReadsArg, arg_text}
 use Rattle.cs_grammar.specs.Grammar.{text_result, arg_value, ReadsList, list_stop, list_last, list_more, ReadsArgs}
 use Rattle.cs_grammar.specs.Grammar.{args_stop, args_none, args_some}
-use Rattle.cs_symbols.specs.{declared.symbol.Kind.Kind, declared.symbol.Expected.Expected}
-use Rattle.cs_symbols.specs.Symbols.{Symbol, next, after}
-use Rattle.cs_symbols.specs.Kinds.{is_word, is_name_kind, may_be_opcode}
+use Rattle.cs_grammar.specs.{declared.symbol.Kind.Kind, declared.symbol.Expected.Expected}
+use Rattle.cs_grammar.specs.Symbols.{Symbol, next, after}
+use Rattle.cs_grammar.specs.Kinds.{is_word, is_name_kind, may_be_opcode}
 use Rattle.cs_base.specs.declared.fault.OrcKind.TheVariants as orc
 use Rattle.cs_words.specs.declared.catalogue.Opcode.TheVariants as opcode
 use Rattle.cs_words.specs.declared.word.Word.TheVariants as word
-use Rattle.cs_symbols.specs.declared.symbol.Kind.TheVariants as kind
-use Rattle.cs_symbols.specs.declared.symbol.Expected.TheVariants as expected
+use Rattle.cs_grammar.specs.declared.symbol.Kind.TheVariants as kind
+use Rattle.cs_grammar.specs.declared.symbol.Expected.TheVariants as expected
 use Rattle.cs_grammar.specs.declared.scope.Place.TheVariants as place
 use Rattle.cs_grammar.specs.declared.tree.Callee.TheVariants as callee
 use Rattle.cs_grammar.specs.declared.lists.Role.TheVariants as role
 
--- a word is what its bytes say
+-- a word's meaning is determined by its bytes
 abbrev pub IsWord : Symbol → Type 0
 IsWord t = (w : Word) → t.kind ≡ kind.Word w → (word_of t.text ≡ w) × HasNoStop t.text
 
+-- a reading whose value satisfies S and whose remaining symbols satisfy Q; a fault satisfies both
 abbrev pub Fine : {A : Type 0} → (List Symbol → Type 0) → (A → Type 0) → Reading A → Type 0
 Fine Q S (Ok (a, ts)) = S a × Q ts
 Fine Q S (Err f) = Unit {0}
 
+-- the remaining symbols satisfy Q, unless a fault came before
 abbrev pub Kept : (List Symbol → Type 0) → Left → Type 0
 Kept Q (Ok ts) = Q ts
 Kept Q (Err f) = Unit {0}
@@ -119,7 +122,7 @@ not_own : (s : Scope) (name : List ℕ) → is_own s name s.place ≡ false → 
 not_own s name e p q =
     let k : true ≡ false = sym ((bytes_eq-Decides s.own name).1 (sym q)) ∙ sym (ap (is_own s name) p) ∙ e in cc
 
--- ---- readings, of symbols of which Q holds
+-- ---- readings of symbols that satisfy Q
 
 module _ (Q : List Symbol → Type 0) (closed : (ts : List Symbol) → Q ts → Q (after ts))
     (good : (ts : List Symbol) → Q ts → IsWord (next ts)) where
@@ -166,7 +169,7 @@ module _ (Q : List Symbol → Type 0) (closed : (ts : List Symbol) → Q ts → 
       by kind.End = h
       by _ = tt
 
-  -- the end of a line, and what then holds of the next
+  -- the end of a line, and the property of the symbols after it
   pub fine_line : {A : Type 0} (R : List Symbol → Type 0)
       → ((ts : List Symbol) → Q ts → (next ts).kind ≡ kind.NewLine → R (after ts))
       → ((ts : List Symbol) → Q ts → (next ts).kind ≡ kind.End → R ts)
@@ -294,7 +297,7 @@ module _ (Q : List Symbol → Type 0) (closed : (ts : List Symbol) → Q ts → 
       fine_mapped (All IsVariable) (All IsVariable) (λ ns. n ∷ ns) (λ ns x. All-cons IsVariable n ns h.0 x) out
       (fine_targets s k (closed us h.1))
 
-  -- ---- what is called
+  -- ---- the called opcode
 
   fine_called : (s : Scope) (ts : List Symbol) (w : Word) → Q ts → (next ts).kind ≡ kind.Word w → is_an_opcode w ≡ false
       → Fine Q (IsCall s.place s.own) (called s ts)

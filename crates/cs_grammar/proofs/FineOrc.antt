@@ -1,4 +1,4 @@
--- What is read is sound: definitions, instruments, orchestras.
+-- Whatever is read is well formed: definitions, instruments, orchestras.
 use Rattle.std.proofs.Common.{◌≡◌, ◌≢◌, ◌∙◌, ◌++◌, ◌==◌, not, ℕ, suc, Bool, true, false, List, [], ◌∷◌, length, map, Ok}
 use Rattle.std.proofs.Common.{Err, nat_le, if◌then◌else◌, refl, arith, sym, ap, subst}
 use Rattle.std.specs.{Prelude.slice_index_or, Str.bytes_eq, List.All, List.AllPairs}
@@ -24,20 +24,20 @@ use Rattle.cs_grammar.specs.Orchestra.{with_instr, with_definition, with_stmt, d
 use Rattle.cs_grammar.specs.Orchestra.{orc_end, orc_header, orc_instr, orc_udo, orc_stmt}
 use Rattle.cs_grammar.specs.WellFormed.{HasNoStop, IsVariable, line_of, WellFormedStmt, WellFormedBlock}
 use Rattle.cs_grammar.specs.WellFormed.{WellFormedValue, WellFormedInstrument, WellFormedDefinition, all_numbers}
-use Rattle.cs_symbols.specs.{declared.symbol.Kind.Kind, Kinds.is_word, Kinds.may_be_opcode}
-use Rattle.cs_symbols.specs.Symbols.{Symbol, symbols_from, kind_after, kind_of_mark, unquoted, counted, bytes_of, next}
-use Rattle.cs_symbols.specs.Symbols.{after}
+use Rattle.cs_grammar.specs.{declared.symbol.Kind.Kind, Kinds.is_word, Kinds.may_be_opcode}
+use Rattle.cs_grammar.specs.Symbols.{Symbol, symbols_from, kind_after, kind_of_mark, unquoted, counted, bytes_of, next}
+use Rattle.cs_grammar.specs.Symbols.{after}
 use Rattle.cs_grammar.proofs.OneXin.{has_snoc, differs}
 use Rattle.cs_grammar.proofs.Fine.{IsWord, Fine, Kept, kept, may_be_stopless, variable_named, fine_both, fine_three}
 use Rattle.cs_grammar.proofs.Fine.{fine_through, fine_ended, fine_line, weakened, fine_list}
 use Rattle.cs_grammar.proofs.FineStmt.{fine_stmt, fine_block, NumbersFrom, fine_numbers, has_append}
 use Rattle.cs_base.specs.declared.fault.OrcKind.TheVariants as orc
 use Rattle.cs_lex.specs.declared.token.Mark.TheVariants as mark
-use Rattle.cs_symbols.specs.declared.symbol.Kind.TheVariants as kind
-use Rattle.cs_symbols.specs.declared.symbol.Expected.TheVariants as expected
+use Rattle.cs_grammar.specs.declared.symbol.Kind.TheVariants as kind
+use Rattle.cs_grammar.specs.declared.symbol.Expected.TheVariants as expected
 use Rattle.cs_grammar.specs.declared.scope.Place.TheVariants as place
 
--- ---- the symbols of tokens are what their bytes say
+-- ---- the kinds of symbols are determined by the bytes of their tokens
 
 word_in : Word → Kind → Word
 word_in d (kind.Word w) = w
@@ -73,6 +73,7 @@ text_word place mark.Sign bytes w n e = by (nat_le 1000 place) e
 text_word place mark.NewLine bytes w n e = cc
 text_word place mark.End bytes w n e = cc
 
+-- the meaning of every word among the symbols is determined by its bytes
 abbrev pub Words : List Symbol → Type 0
 Words [] = Unit {0}
 Words (t ∷ ts) = IsWord t × Words ts
@@ -97,7 +98,7 @@ words_from source place (t ∷ ts) h = (
   words_from source (counted place t.mark) ts (All-tail (NoStops source) t ts h),
 )
 
--- ---- different numbers and names, one list after the other
+-- ---- different numbers and names, one list after another
 
 pairs_append : {A : Type 0} (R : A → A → Type 0) (xs ys : List A) → AllPairs R xs → AllPairs R ys
     → All (λ x. All (R x) ys) xs → AllPairs R (xs ++ ys)
@@ -123,17 +124,19 @@ apart_all xs ns h k d lt i e within = not_there xs (slice_index_or ns i e) (h i 
 
 -- ---- the lines of a definition
 
--- a name for an opcode that is new
+-- a new name for an opcode
 abbrev pub IsNew : List (List ℕ) → List ℕ → Type 0
 IsNew d n = (has d n ≡ false) × HasNoStop n
 
+-- any rates are well formed
 abbrev pub AnyRates : List Rate → Type 0
 AnyRates rs = Unit {0}
 
+-- a heading on this line with a new name
 abbrev pub NewHeading : ℕ → List (List ℕ) → Heading → Type 0
 NewHeading line d h = IsNew d h.name × (h.line ≡ line)
 
--- the names that take the inputs, as a definition has them
+-- the names of the inputs fit their rates
 pub record NamesFit (ins : List Rate) (ns : List (List ℕ)) : Type 0 where
   pub local : All (λ n. IsVariable n × (is_global n ≡ false)) ns
   pub rates : map name_rate ns ≡ ins
@@ -143,7 +146,7 @@ pub record ValuesFit (outs : List Rate) (vs : List Argument) : Type 0 where
   pub number : length vs ≡ length outs
   pub each : All WellFormedValue vs
 
--- a definition that is sound, of a name that is new
+-- a well-formed definition with a new name
 pub record NewDefinition (line : ℕ) (d : List (List ℕ)) (x : Definition) : Type 0 where
   pub sound : WellFormedDefinition x
   pub fresh : has d x.name ≡ false
@@ -154,6 +157,7 @@ pub record NewInstrument (line : ℕ) (g : List ℕ) (x : Instrument) : Type 0 w
   pub sound : WellFormedInstrument x
   pub numbers : NumbersFrom g x.numbers
 
+-- a header line on this line
 abbrev pub HeaderAt : ℕ → HeadLine → Type 0
 HeaderAt line h = h.line ≡ line
 
@@ -166,6 +170,7 @@ pub record WellFormedFrom (d : List (List ℕ)) (g : List ℕ) (o : Orchestra) :
   pub opcodes : AreDifferent (map (λ x. x.name) o.opcodes)
   pub opcodes_apart : All (λ n. has d n ≡ false) (map (λ x. x.name) o.opcodes)
 
+-- a reading of an orchestra that is well formed, unless it is a fault
 abbrev pub FineOrc : List (List ℕ) → List ℕ → Reading Orchestra → Type 0
 FineOrc d g (Ok (o, ts)) = WellFormedFrom d g o
 FineOrc d g (Err f) = Unit {0}

@@ -1,4 +1,4 @@
--- What is read is sound: statements, numbers, the lines of a definition.
+-- Whatever is read is well formed: statements, numbers, the lines of a definition.
 use Rattle.std.proofs.Common.{◌≡◌, ◌≢◌, ◌∙◌, ◌≤◌, ◌<◌, ◌++◌, ◌&&◌, ◌||◌, ◌==◌, ◌%◌, ◌/◌, ℕ, ℤ, pos, Bool, true, false}
 use Rattle.std.proofs.Common.{List, [], ◌∷◌, Option, Some, None, Ok, Err, nat_lt, nat_le, if◌then◌else◌, refl, arith}
 use Rattle.std.proofs.Common.{sym, ap, subst}
@@ -19,8 +19,8 @@ use Rattle.cs_grammar.specs.Lines.{number_at, ReadsNumbers, no_item, last_item, 
 use Rattle.cs_grammar.specs.Grammar.{assign, ReadsStmt, stmt_assign, stmt_results, stmt_bare, stmt_if, stmt_beyond}
 use Rattle.cs_grammar.specs.Grammar.{stmt_misplaced, ReadsBlock, block_stop, block_end, block_more, ReadsArms, arm_more}
 use Rattle.cs_grammar.specs.Grammar.{ReadsMore, more_stop, more_elseif, more_else, more_endif}
-use Rattle.cs_symbols.specs.declared.symbol.Kind.{Kind}
-use Rattle.cs_symbols.specs.Symbols.{Symbol, next, after}
+use Rattle.cs_grammar.specs.declared.symbol.Kind.{Kind}
+use Rattle.cs_grammar.specs.Symbols.{Symbol, next, after}
 use Rattle.cs_grammar.proofs.Fine.{IsWord, Fine, Kept, kept, kept_skip, fine_mapped, fine_both, fine_three}
 use Rattle.cs_grammar.proofs.Fine.{fine_through, fine_ended, fine_line, weakened, fine_expr, fine_args, fine_target}
 use Rattle.cs_grammar.proofs.Fine.{fine_targets, fine_operation}
@@ -28,11 +28,11 @@ use Rattle.cs_base.specs.declared.fault.OrcKind.TheVariants as orc
 use Rattle.cs_words.specs.declared.word.Keyword.TheVariants as key
 use Rattle.cs_words.specs.declared.word.Word.TheVariants as word
 use Rattle.cs_words.specs.declared.sign.Sign.TheVariants as sign
-use Rattle.cs_symbols.specs.declared.symbol.Kind.TheVariants as kind
-use Rattle.cs_symbols.specs.declared.symbol.Expected.TheVariants as expected
+use Rattle.cs_grammar.specs.declared.symbol.Kind.TheVariants as kind
+use Rattle.cs_grammar.specs.declared.symbol.Expected.TheVariants as expected
 use Rattle.cs_grammar.specs.declared.stmt.LineForm.TheVariants as form
 
--- ---- an `if` stands inside at most 99 others
+-- ---- an `if` is inside at most 99 others
 
 no_if : (k : Kind) (b : Bool) → word_form k b ≡ form.Conditional → ⊥
 no_if (kind.Sign sign.Colon) b e = cc
@@ -189,7 +189,7 @@ number_range (pos raw) n e = by (raw % 65536 == 0 && nat_le 1 (raw / 65536) && n
     by false h e = cc
 number_range _ n e = cc
 
--- numbers of instruments, different, and none of them given before
+-- the numbers of an instrument: they differ, and none has been used before
 pub record NumbersFrom (given ns : List ℕ) : Type 0 where
   pub range : All (λ n. (1 ≤ n) × (n ≤ 32767)) ns
   pub different : AreDifferent ns

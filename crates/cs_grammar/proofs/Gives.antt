@@ -1,16 +1,17 @@
--- What a call answers, from what its calls answered.
+-- The result of a call, from the results of the calls in it.
 use Rattle.std.proofs.Common.{◌≡◌, ◌∙◌, Bool, true, false, List, Result, Ok, Err, if◌then◌else◌, refl, sym, ap, subst}
 use Rattle.std.specs.Result.{IsErrAnd, IfOk, IfErr}
 use Rattle.cs_base.specs.{declared.fault.Or.Or, declared.fault.OrcFault.OrcFault}
 use Rattle.cs_grammar.specs.Reading.{next_is, through, Left, Reading, Scope, both, ended, left, line_end, mapped}
 use Rattle.cs_grammar.specs.Reading.{misfit}
 use Rattle.cs_grammar.specs.inner.Answers.{Gives, Passes, line_past, past}
-use Rattle.cs_symbols.specs.{declared.symbol.Kind.Kind, declared.symbol.Expected.Expected}
-use Rattle.cs_symbols.specs.Symbols.{Symbol, after, next}
+use Rattle.cs_grammar.specs.{declared.symbol.Kind.Kind, declared.symbol.Expected.Expected}
+use Rattle.cs_grammar.specs.Symbols.{Symbol, after, next}
 use Rattle.cs_base.specs.declared.fault.Or.TheVariants as or
 use Rattle.cs_base.specs.declared.fault.OrcKind.TheVariants as orc
-use Rattle.cs_symbols.specs.declared.symbol.Kind.TheVariants as kind
+use Rattle.cs_grammar.specs.declared.symbol.Kind.TheVariants as kind
 
+-- two errors are the same
 abbrev pub Same : Or OrcFault → Or OrcFault → Type 0
 Same e y = y ≡ e
 
@@ -26,7 +27,7 @@ failed see sees (Err (or.Fault g)) (or.Fault f) rest others P Q i h k =
 failed see sees (Err or.OutOfMemory) e rest others P Q i h k = tt
 failed see sees (Err (or.Fault g)) or.OutOfMemory rest others P Q i h k = cc
 
--- the same of a symbol that must come next
+-- the exit of a `?` after a symbol that must come next
 pub unpassed : {U B : Type 0} (T : Type 0) (sees : U → B) (r : Result U (Or OrcFault)) (e : Or OrcFault)
     (rest others : List Symbol) (st : Left)
     (Q : Reading B → Type 0) → IsErrAnd r (Same e) → Passes {T = T} (Err e) rest st
@@ -61,7 +62,7 @@ pub left_through : {A : Type 0} (s : Scope) (p : Expected) (a : A) (ts : List Sy
     → left (through s p (Ok (a, ts))) ≡ past s p ts
 left_through s p a ts = left_on s a ts (next_is p ts)
 
--- a reading with this value that leaves what is left
+-- a reading with this value and these remaining symbols
 abbrev pub valued : {A : Type 0} → A → Left → Reading A
 valued a (Ok ts) = Ok (a, ts)
 valued a (Err f) = Err f
@@ -75,7 +76,7 @@ pub through_is : {A : Type 0} (s : Scope) (p : Expected) (a : A) (ts : List Symb
     → through s p (Ok (a, ts)) ≡ valued a st
 through_is s p a ts st e = valued_on s a ts (next_is p ts) ∙ ap (valued a) e
 
--- the same of the end of a line
+-- the end of a line as such a reading
 
 line_valued : {A : Type 0} (s : Scope) (a : A) (k : Kind) (ts : List Symbol)
     → line_end s a k ts ≡ valued a (line_past s k ts)
@@ -91,7 +92,7 @@ pub left_valued : {A : Type 0} (a : A) (st : Left) → left (valued a st) ≡ st
 left_valued a (Ok ts) = refl
 left_valued a (Err f) = refl
 
--- a value that is handed on, with what must follow it
+-- a value that is passed on, with the symbols that must follow it
 pub followed : {U B : Type 0} (sees : U → B) (r : Result U (Or OrcFault)) (v : U) (rest : List Symbol) (st : Left)
     (Q : Reading B → Type 0)
     → IfOk r (λ x. x ≡ v) → Passes r rest st → ((p : Left) → st ≡ p → Q (valued (sees v) p)) → Gives sees r rest Q
@@ -99,7 +100,7 @@ followed sees (Ok x) v rest st Q h e k = subst (λ y. Q (Ok (sees y, rest))) (sy
 followed sees (Err (or.Fault f)) v rest st Q h e k = k (Err f) e
 followed sees (Err or.OutOfMemory) v rest st Q h e k = tt
 
--- ---- a value that is seen in another way
+-- ---- a value that is converted
 
 abbrev value_in : {A : Type 0} → A → Reading A → A
 value_in d (Ok p) = p.0
@@ -135,7 +136,7 @@ pub both_mapped : {A B C : Type 0} (f : A → B → C) (a : A) (ts : List Symbol
 both_mapped f a ts (Ok (b, us)) = refl
 both_mapped f a ts (Err e) = refl
 
--- what stands behind a value is what is left
+-- the symbols that remain after a value and the end of its line
 
 abbrev closing : Scope → Left → Left
 closing t (Ok ts) = line_past t (next ts).kind ts

@@ -1,4 +1,5 @@
--- The line of `opcode`, the names of `xin` and the results of `xout`, as the parser meets them.
+-- The line of `opcode`, the names of `xin` and the results of `xout`, in the form in which the parser uses
+-- them.
 use Rattle.std.proofs.Common.{◌≡◌, ◌≢◌, ◌∙◌, ◌≤◌, ◌-◌, ◌++◌, ◌&&◌, ℕ, Bool, zero, suc, true, false, List, [], ◌∷◌, Ok}
 use Rattle.std.proofs.Common.{Err, if◌then◌else◌, refl, arith, ap, sym}
 use Rattle.cs_base.specs.{declared.fault.OrcFault.OrcFault, declared.resource.Rate.Rate}
@@ -9,9 +10,9 @@ use Rattle.cs_grammar.specs.Reading.{through, Left, Reading, Scope, both, ended,
 use Rattle.cs_grammar.specs.inner.Answers.{last_left, line_past, past, signature}
 use Rattle.cs_grammar.specs.inner.Takes.{after_first, are_inputs, are_results, at_xin, first_fits, is_input, is_none}
 use Rattle.cs_grammar.specs.inner.Takes.{last_line, results_of, words}
-use Rattle.cs_symbols.specs.Symbols.{Symbol, after, next}
+use Rattle.cs_grammar.specs.Symbols.{Symbol, after, next}
 use Rattle.cs_base.specs.declared.fault.OrcKind.TheVariants as orc
-use Rattle.cs_symbols.specs.declared.symbol.Expected.TheVariants as expected
+use Rattle.cs_grammar.specs.declared.symbol.Expected.TheVariants as expected
 
 -- ---- the line of `opcode`
 
@@ -39,7 +40,7 @@ heading_is s line ts n us vs o a b e =
     ∙ ap (λ x. ended s (three (heading_of line) x (types s (left (through s expected.Comma x)))
     (types s (left (through s expected.Comma (types s (left (through s expected.Comma x)))))))) (sym a)
 
--- a line without the comma behind its name
+-- a line without the comma after its name
 
 pub heading_uncut : (s : Scope) (line : ℕ) (ts : List Symbol) (n : List ℕ) (us : List Symbol) (f : OrcFault)
     → new_name s ts ≡ Ok (n, us)
@@ -110,7 +111,7 @@ pub judged_is : (s : Scope) (line : ℕ) (outs : List Rate) (args : List Argumen
 judged_is s line outs args ts st e l =
     ap (by_number s line args ts) e ∙ last_by s args ts (next_is expected.Endop ts) ∙ ap (valued args) l
 
--- ---- the first of the inputs, where it is the last
+-- ---- the first of the inputs, if it is the last
 
 pub last_input : (s : Scope) (before : List (List ℕ)) (ins : List Rate) (n : ℕ) (ts : List Symbol) → n ≡ 1
     → first_fits s before ins (next ts) ≡ true

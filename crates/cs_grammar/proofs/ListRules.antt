@@ -1,12 +1,12 @@
--- Texts in lists, as the parser meets them.
+-- Texts in lists, in the form in which the parser uses them.
 use Rattle.std.proofs.Common.{◌≡◌, true, List, Result, Ok, Err, sym, subst}
 use Rattle.cs_base.specs.{declared.fault.Or.Or, declared.fault.OrcFault.OrcFault}
 use Rattle.cs_grammar.specs.{declared.lists.Role.Role, declared.tree.Arg.Arg, Tree.argument, Reading.Scope}
 use Rattle.cs_grammar.specs.{Reading.next_is, inner.Answers.Gives, inner.Rows.quoted}
 use Rattle.cs_grammar.specs.Grammar.{ReadsArg, arg_text, text_result}
-use Rattle.cs_symbols.specs.Symbols.{Symbol}
+use Rattle.cs_grammar.specs.Symbols.{Symbol}
 use Rattle.cs_base.specs.declared.fault.Or.TheVariants as or
-use Rattle.cs_symbols.specs.declared.symbol.Expected.TheVariants as expected
+use Rattle.cs_grammar.specs.declared.symbol.Expected.TheVariants as expected
 use Rattle.cs_grammar.specs.declared.lists.Role.TheVariants as role
 
 quoted_is : (s : Scope) (r : Role) (ts : List Symbol) → next_is expected.Text ts ≡ true → ReadsArg s r ts (quoted r ts)

@@ -1,5 +1,5 @@
--- Every text has one reading as an expression of a level. A function with steps to spend computes it: it ends as the
--- relation says, where the steps suffice.
+-- Every text has exactly one reading as an expression of a level. A function with a number of steps computes
+-- it: given enough steps, its result is the one that the relation states.
 use Rattle.std.proofs.Common.{◌≡◌, ◌<◌, ◌≤◌, ◌+◌, ◌*◌, ◌&&◌, ◌∙◌, ℕ, zero, suc, Bool, true, false, List, [], ◌∷◌}
 use Rattle.std.proofs.Common.{length, Option, Some, None, Ok, Err, refl, arith, sym, ap, subst}
 use Rattle.cs_base.specs.declared.fault.OrcFault.{OrcFault}
@@ -11,19 +11,19 @@ use Rattle.cs_grammar.specs.Reading.{through, Left, Reading, Scope, both, left, 
 use Rattle.cs_grammar.specs.Grammar.{ReadsExpr, ReadsTail, binary, expr_stop, fact_alone, fact_call, fact_group}
 use Rattle.cs_grammar.specs.Grammar.{fact_neg, fact_pick, no_more, one_alone, one_more}
 use Rattle.cs_grammar.specs.Tree.{Expression, apply, neg, pair, pick}
-use Rattle.cs_symbols.specs.{declared.symbol.Kind.Kind, Kinds.is_word}
-use Rattle.cs_symbols.specs.Symbols.{Symbol, after, next}
+use Rattle.cs_grammar.specs.{declared.symbol.Kind.Kind, Kinds.is_word}
+use Rattle.cs_grammar.specs.Symbols.{Symbol, after, next}
 use Rattle.cs_grammar.proofs.Sizes.{size, after_size, skip_size, mapped_size, both_size, three_size, choice_size}
 use Rattle.cs_grammar.proofs.Sizes.{through_size}
 use Rattle.cs_base.specs.declared.fault.OrcKind.TheVariants as orc
 use Rattle.cs_words.specs.declared.sign.BinOp.TheVariants as b
 use Rattle.cs_grammar.specs.declared.expr.Level.TheVariants as level
-use Rattle.cs_symbols.specs.declared.symbol.Kind.TheVariants as kind
+use Rattle.cs_grammar.specs.declared.symbol.Kind.TheVariants as kind
 use Rattle.cs_grammar.specs.declared.expr.PartForm.TheVariants as part
-use Rattle.cs_symbols.specs.declared.symbol.Expected.TheVariants as expected
+use Rattle.cs_grammar.specs.declared.symbol.Expected.TheVariants as expected
 use Rattle.cs_words.specs.declared.sign.Sign.TheVariants as sign
 
--- what is asked for: an expression, or the operators after one
+-- a request: an expression, or the operators after one
 pub data Ask : Type 0 where
   expr : Level → Left → Ask
   tail : Level → Reading Expression → Ask
@@ -79,7 +79,7 @@ pub run : Scope → ℕ → Answers
 run s zero a = Err (record { line = 0; kind = orc.Unexpected })
 run s (suc n) a = step s (run s n) a
 
--- an ask whose answer is the same for all numbers of steps from one on
+-- a request whose result is the same for every number of steps from some number on
 pub record Settles (s : Scope) (a : Ask) (o : Reading Expression) : Type 0 where
   pub steps : ℕ
   pub ends : (n : ℕ) → steps ≤ n → run s n a ≡ o
@@ -144,7 +144,7 @@ mutual
       ∙ ap (λ x. tail_on (run s m) l x (both (pair op) o (right_side (run s m) o (tighter l)))) r
       ∙ ap (λ x. both (pair op) o (right_side (run s m) o x)) t ∙ ap (λ x. both (pair op) o x) (i.ends m le))
 
--- one reading at most
+-- at most one reading
 pub same_expr : {s : Scope} {l : Level} {st : Left} {o p : Reading Expression} → ReadsExpr s l st o → ReadsExpr s l st p
     → o ≡ p
 same_expr h k =
@@ -152,7 +152,7 @@ same_expr h k =
     let j = settles k in
     sym (i.ends (i.steps + j.steps) (omega arith)) ∙ j.ends (i.steps + j.steps) (omega arith)
 
--- one reading at least
+-- at least one reading
 
 abbrev rank_of : Option Level → ℕ
 rank_of (Some m) = rank m + 2

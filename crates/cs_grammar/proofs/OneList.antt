@@ -1,4 +1,4 @@
--- Every text has one reading as arguments.
+-- Every text has exactly one reading as arguments.
 use Rattle.std.proofs.Common.{◌≡◌, ◌<◌, ◌≤◌, ◌+◌, ◌∙◌, ℕ, zero, suc, Bool, true, false, List, [], ◌∷◌, length, Ok, Err}
 use Rattle.std.proofs.Common.{refl, arith, sym, ap}
 use Rattle.cs_grammar.proofs.Sizes.{size, after_size, mapped_size, both_size}
@@ -7,10 +7,10 @@ use Rattle.cs_grammar.specs.{declared.lists.Role.Role, inner.Rows.quoted, Tree.A
 use Rattle.cs_grammar.specs.Grammar.{ReadsArg, ReadsArgs, ReadsList, arg_text, arg_value, args_none, args_some}
 use Rattle.cs_grammar.specs.Grammar.{args_stop, list_last, list_more, list_stop, text_result}
 use Rattle.cs_grammar.specs.Reading.{Left, Reading, Scope, both, left, mapped, meets, next_is, skip}
-use Rattle.cs_symbols.specs.{Kinds.ends_line, Symbols.Symbol, Symbols.next}
+use Rattle.cs_grammar.specs.{Kinds.ends_line, Symbols.Symbol, Symbols.next}
 use Rattle.cs_base.specs.declared.fault.OrcKind.TheVariants as orc
 use Rattle.cs_grammar.specs.declared.expr.Level.TheVariants as level
-use Rattle.cs_symbols.specs.declared.symbol.Expected.TheVariants as expected
+use Rattle.cs_grammar.specs.declared.symbol.Expected.TheVariants as expected
 use Rattle.cs_grammar.specs.declared.lists.Role.TheVariants as role
 
 arg_by : Scope → Role → List Symbol → Bool → Reading Argument

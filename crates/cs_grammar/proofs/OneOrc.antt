@@ -1,4 +1,4 @@
--- Every text has one reading as an instrument, as a definition, as an orchestra.
+-- Every text has exactly one reading as an instrument, as a definition, and as an orchestra.
 use Rattle.std.proofs.Common.{◌≡◌, ◌<◌, ◌≤◌, ◌+◌, ◌∙◌, ◌⊎◌, ◌==◌, ℕ, zero, suc, Bool, true, false, List, [], ◌∷◌}
 use Rattle.std.proofs.Common.{length, not, if◌then◌else◌, Ok, Err, refl, arith, inl, inr, sym, ap, map}
 use Rattle.cs_base.specs.{declared.fault.OrcFault.OrcFault, declared.fault.OrcKind.OrcKind, declared.resource.Rate.Rate}
@@ -17,8 +17,8 @@ use Rattle.cs_grammar.specs.Orchestra.{xout_last, xout_missing, xout_not_last, x
 use Rattle.cs_grammar.specs.Reading.{Left, Reading, Scope, both, ended, fault, in_definition, in_instrument, left}
 use Rattle.cs_grammar.specs.Reading.{misfit, next_is, outside, three, through}
 use Rattle.cs_grammar.specs.inner.Takes.{inputs, is_none, last_line, no_results, results_of}
-use Rattle.cs_symbols.specs.{declared.symbol.Kind.Kind, Kinds.is_word, Kinds.may_be_opcode}
-use Rattle.cs_symbols.specs.Symbols.{Symbol, symbols, after, next}
+use Rattle.cs_grammar.specs.{declared.symbol.Kind.Kind, Kinds.is_word, Kinds.may_be_opcode}
+use Rattle.cs_grammar.specs.Symbols.{Symbol, symbols, after, next}
 use Rattle.cs_grammar.proofs.Sizes.{size, after_size, both_size, three_size, through_size, ended_size, choice_size}
 use Rattle.cs_grammar.proofs.OneRow.{numbers_less, reads_numbers, numbers_are}
 use Rattle.cs_grammar.proofs.{OneXin.reads_inputs, OneXin.inputs_are, OneXin.inputs_size, OneStmt.block_is}
@@ -26,10 +26,10 @@ use Rattle.cs_grammar.proofs.ResultRules.{none_given, given, some_missing, uneve
 use Rattle.cs_grammar.proofs.OneList.{the_list, reads_list, list_size, list_is}
 use Rattle.cs_grammar.proofs.OneStmt.{the_stmt, reads_stmt, stmt_less, stmt_is, the_block, reads_block, block_size}
 use Rattle.cs_base.specs.declared.fault.OrcKind.TheVariants as orc
-use Rattle.cs_symbols.specs.declared.symbol.Kind.TheVariants as kind
+use Rattle.cs_grammar.specs.declared.symbol.Kind.TheVariants as kind
 use Rattle.cs_grammar.specs.declared.orc.ItemForm.TheVariants as item
 use Rattle.cs_grammar.specs.declared.lists.Role.TheVariants as role
-use Rattle.cs_symbols.specs.declared.symbol.Expected.TheVariants as expected
+use Rattle.cs_grammar.specs.declared.symbol.Expected.TheVariants as expected
 
 -- ---- sizes
 

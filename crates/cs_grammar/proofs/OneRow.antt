@@ -1,17 +1,17 @@
--- Every text has one reading as targets, and one as an instrument's numbers.
+-- Every text has exactly one reading as targets, and one as an instrument's numbers.
 use Rattle.std.proofs.Common.{◌≡◌, ◌∙◌, ◌≤◌, ◌<◌, ◌+◌, ◌++◌, ℕ, zero, suc, Bool, true, false, List, ◌∷◌, length, [], Ok}
 use Rattle.std.proofs.Common.{Err, refl, arith, sym, ap, subst}
 use Rattle.cs_grammar.specs.Lines.{one_target, target, ReadsNumbers, ReadsRow, ReadsTargets, last_item, more_items}
 use Rattle.cs_grammar.specs.Lines.{no_item, one_number}
 use Rattle.cs_grammar.specs.Reading.{Reading, left, mapped, next_is, Scope}
 use Rattle.cs_grammar.specs.inner.Rows.{behind, numbers, row, targets}
-use Rattle.cs_symbols.specs.{Symbols.Symbol, Symbols.after, Kinds.is}
+use Rattle.cs_grammar.specs.{Symbols.Symbol, Symbols.after, Kinds.is}
 use Rattle.cs_grammar.proofs.SoFar.{TakesOne, number_takes, row_fail, row_step, target_takes}
 use Rattle.cs_grammar.proofs.Sizes.{size, after_size, mapped_size, choice_size}
-use Rattle.cs_symbols.specs.declared.symbol.Kind.TheVariants as kind
-use Rattle.cs_symbols.specs.declared.symbol.Expected.TheVariants as expected
+use Rattle.cs_grammar.specs.declared.symbol.Kind.TheVariants as kind
+use Rattle.cs_grammar.specs.declared.symbol.Expected.TheVariants as expected
 
--- one reading as items with commas between them
+-- exactly one reading as comma-separated items
 module _ {A : Type 0} (one : List A → List Symbol → Reading A) (takes : TakesOne one) where
   pub one_less : (before : List A) (ts : List Symbol) → size (left (one before ts)) ≤ length ts
   one_less before ts = by (one before ts) refl

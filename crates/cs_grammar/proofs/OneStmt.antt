@@ -1,4 +1,4 @@
--- Every text has one reading as a statement, as statements, as arms.
+-- Every text has exactly one reading as a statement, as statements, and as arms.
 use Rattle.std.proofs.Common.{◌≡◌, ◌<◌, ◌≤◌, ◌+◌, ◌*◌, ◌∙◌, ℕ, zero, suc, Bool, true, false, List, [], ◌∷◌, length, Ok}
 use Rattle.std.proofs.Common.{Err, if◌then◌else◌, refl, arith, sym, ap}
 use Rattle.cs_words.specs.{declared.catalogue.Opcode.Opcode, declared.word.Word.Word}
@@ -11,19 +11,19 @@ use Rattle.cs_grammar.specs.Grammar.{stmt_assign, stmt_bare, stmt_beyond, stmt_i
 use Rattle.cs_grammar.specs.Reading.{Left, Reading, Scope, both, deeper, ended, fault, left, mapped, misfit, next_is}
 use Rattle.cs_grammar.specs.Reading.{skip, three, through}
 use Rattle.cs_grammar.specs.Tree.{Arms, Block, Expression, Statement, andthen, arm, call, choose, no_stmt, otherwise}
-use Rattle.cs_symbols.specs.declared.symbol.Kind.{Kind}
-use Rattle.cs_symbols.specs.Symbols.{Symbol, after, next}
+use Rattle.cs_grammar.specs.declared.symbol.Kind.{Kind}
+use Rattle.cs_grammar.specs.Symbols.{Symbol, after, next}
 use Rattle.cs_grammar.proofs.Sizes.{size, skip_size, mapped_size, both_size, three_size, through_size, ended_size}
 use Rattle.cs_grammar.proofs.{Sizes.choice_size, OneExpr.the_expr, OneExpr.reads_expr, OneExpr.expr_size}
 use Rattle.cs_grammar.proofs.{OneExpr.expr_is, OneList.the_args, OneList.reads_args, OneList.args_size, OneList.args_is}
 use Rattle.cs_grammar.proofs.OneRow.{target_less, targets_less, reads_targets, targets_are}
 use Rattle.cs_base.specs.declared.fault.OrcKind.TheVariants as orc
 use Rattle.cs_words.specs.declared.catalogue.Opcode.TheVariants as opcode
-use Rattle.cs_symbols.specs.declared.symbol.Kind.TheVariants as kind
+use Rattle.cs_grammar.specs.declared.symbol.Kind.TheVariants as kind
 use Rattle.cs_grammar.specs.declared.tree.Callee.TheVariants as callee
 use Rattle.cs_grammar.specs.declared.expr.Level.TheVariants as level
 use Rattle.cs_grammar.specs.declared.stmt.LineForm.TheVariants as form
-use Rattle.cs_symbols.specs.declared.symbol.Expected.TheVariants as expected
+use Rattle.cs_grammar.specs.declared.symbol.Expected.TheVariants as expected
 use Rattle.cs_words.specs.declared.word.Word.TheVariants as word
 
 -- ---- sizes of the parts of a line
@@ -75,6 +75,7 @@ pub data Ask : Type 0 where
   arms : Scope → Left → Ask
   more : Scope → Left → Ask
 
+-- the type of the reading that answers a request
 abbrev pub Answer : Ask → Type 0
 Answer (stmt s ts) = Reading Statement
 Answer (block s st) = Reading Block
@@ -130,6 +131,7 @@ step R (block s st) = block_step R s st
 step R (arms s st) = arms_by R s (the_expr s level.Expr st)
 step R (more s st) = more_step R s st
 
+-- the result if the steps run out
 abbrev pub lost : (a : Ask) → Answer a
 lost (stmt s ts) = Err (record { line = 0; kind = orc.Unexpected })
 lost (block s st) = Err (record { line = 0; kind = orc.Unexpected })
@@ -216,7 +218,7 @@ same_block h k =
     let j = block_settles k in
     sym (i.ends (i.steps + j.steps) (omega arith)) ∙ j.ends (i.steps + j.steps) (omega arith)
 
--- ---- one reading at least
+-- ---- at least one reading
 
 abbrev weight : Ask → ℕ
 weight (stmt s ts) = 8 * (length ts + 1) + 1

@@ -1,4 +1,5 @@
--- Every text has one reading as the first line of a definition: what the relation says is what the steps find.
+-- Every text has exactly one reading as the first line of a definition: the steps find what the relation
+-- states.
 use Rattle.std.proofs.Common.{◌≡◌, ◌≢◌, ◌∙◌, ◌≤◌, ◌+◌, ◌++◌, ◌&&◌, ◌||◌, not, ℕ, zero, suc, Bool, true, false, List, []}
 use Rattle.std.proofs.Common.{◌∷◌, length, map, Option, Some, None, Ok, Err, if◌then◌else◌, refl, arith, sym, ap, subst}
 use Rattle.std.specs.{Prelude.slice_index_or, List.All, Str.bytes_eq}
@@ -14,24 +15,24 @@ use Rattle.cs_grammar.specs.inner.Takes.{is_none, no_names}
 use Rattle.cs_grammar.specs.Reading.{Reading, left, next_is, Scope, fault, ended}
 use Rattle.cs_grammar.specs.Inputs.{is_free, XinLine, one_word, more_words, is_local, texts, AreDifferent, NameInputs}
 use Rattle.cs_grammar.specs.Inputs.{ReadsInputs, named, misnamed, xin_alone, no_inputs, xin_missing}
-use Rattle.cs_symbols.specs.{declared.symbol.Kind.Kind, Symbols.Symbol, Symbols.after, Kinds.is, Kinds.is_plain}
+use Rattle.cs_grammar.specs.{declared.symbol.Kind.Kind, Symbols.Symbol, Symbols.after, Kinds.is, Kinds.is_plain}
 use Rattle.cs_grammar.proofs.Sizes.{size, after_size, ended_size, choice_size}
 use Rattle.cs_base.specs.declared.fault.OrcKind.TheVariants as orc
 use Rattle.cs_words.specs.declared.word.Word.TheVariants as word
-use Rattle.cs_symbols.specs.declared.symbol.Kind.TheVariants as kind
-use Rattle.cs_symbols.specs.declared.symbol.Expected.TheVariants as expected
+use Rattle.cs_grammar.specs.declared.symbol.Kind.TheVariants as kind
+use Rattle.cs_grammar.specs.declared.symbol.Expected.TheVariants as expected
 
 count : List Symbol → ℕ
 count [] = zero
 count (w ∷ ws) = suc (count ws)
 
--- whether words name the inputs, after other names
+-- whether words name the inputs, following the names `before`
 are_words : Scope → List (List ℕ) → List Rate → List Symbol → Bool
 are_words s before [] [] = true
 are_words s before (r ∷ rs) (w ∷ ws) = is_input s before r w && are_words s (before ++ w.text ∷ []) rs ws
 are_words s before _ _ = false
 
--- ---- a line of `xin`, and what the steps find there
+-- ---- a line of `xin`, and the result of the steps for it
 
 record Found (s : Scope) (ts ws xin : List Symbol) : Type 0 where
   pub counted : input_count s ts ≡ Some (count ws)
@@ -163,7 +164,7 @@ snoc_false names w n h d =
     has_snoc names w n ∙ ap (λ b. b || bytes_eq n w) h
     ∙ false_from_ne_true (bytes_eq n w) (λ q. d (sym ((bytes_eq-Decides n w).0 q)))
 
--- the words name the inputs, and none of their names stands before
+-- the words name the inputs, and none of their names is among the names before
 record Named (s : Scope) (before : List (List ℕ)) (ins : List Rate) (ws : List Symbol) : Type 0 where
   pub names : NameInputs s ins ws
   pub apart : All (λ n. has before n ≡ false) (texts ws)
@@ -291,7 +292,7 @@ reads_inputs s h ts = by (next_is expected.Xin ts) (input_count s ts) refl refl
         subst (ReadsInputs s h ts) (sym (value s h i.line))
         (named_by i.words i.xin i.line (are_words s [] h.ins i.words) refl)
 
--- ---- what is left
+-- ---- the remaining symbols
 
 at_xin_size : (n : ℕ) (ts : List Symbol) → length (at_xin n ts) ≤ length ts
 at_xin_size zero ts = omega arith

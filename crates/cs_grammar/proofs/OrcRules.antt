@@ -1,4 +1,4 @@
--- The rules of instruments, definitions and orchestras, as the parser meets them.
+-- The rules of instruments, definitions and orchestras, in the form in which the parser uses them.
 use Rattle.std.proofs.Common.{◌≡◌, ◌∙◌, ◌++◌, ℕ, List, ◌∷◌, map, Result, Ok, Err, refl, sym, ap, subst, []}
 use Rattle.std.proofs.lemmas.List.{append_assoc, append-nil}
 use Rattle.std.specs.Result.{IsErrAnd}
@@ -18,13 +18,13 @@ use Rattle.cs_grammar.specs.Tree.{Argument, Block, Definition, Instrument, Orche
 use Rattle.cs_grammar.specs.Tree.{definition, instrument, joins, no_stmt, orchestra, statement}
 use Rattle.cs_grammar.specs.inner.Answers.{Gives, IsInside, IsInstrBody, IsLines, OrcSoFar, Parts, ReadsOn, joined}
 use Rattle.cs_grammar.specs.inner.Answers.{line_past, of_inside, past}
-use Rattle.cs_symbols.specs.declared.symbol.Expected.{Expected}
-use Rattle.cs_symbols.specs.Symbols.{Symbol, after, next}
+use Rattle.cs_grammar.specs.declared.symbol.Expected.{Expected}
+use Rattle.cs_grammar.specs.Symbols.{Symbol, after, next}
 use Rattle.cs_grammar.proofs.{OneRow.reads_numbers, OneXin.reads_inputs}
 use Rattle.cs_grammar.proofs.Gives.{Same, both_mapped, closing_mapped, line_keeps, through_is, ended_is, valued}
 use Rattle.cs_base.specs.declared.fault.Or.TheVariants as or
 use Rattle.cs_grammar.specs.declared.orc.ItemForm.TheVariants as item
-use Rattle.cs_symbols.specs.declared.symbol.Expected.TheVariants as expected
+use Rattle.cs_grammar.specs.declared.symbol.Expected.TheVariants as expected
 
 -- ---- instruments and definitions
 
@@ -59,7 +59,7 @@ udo_is d ts us h n body result e i k r =
     udo e (reads_inputs (own_scope d h) h us) in
     subst (DefinitionRead d ts h body result) i start k r
 
--- a part that is read, a symbol that must come next, and the end of the line
+-- a part that was read, a symbol that must come next, and the end of the line
 pub closed : {A : Type 0} (s t : Scope) (a : A) (mid now : List Symbol) (st : Left) (p : Expected)
     → past s p mid ≡ Ok now
     → line_past t (next now).kind now ≡ st → ended t (through s p (Ok (a, mid))) ≡ valued a st
@@ -104,7 +104,7 @@ added add x o p mid e (Err f) = refl
 abbrev orchestra_of : List HeadLine → List Definition → Block → List Instrument → Orchestra
 orchestra_of h u z i = record { head = h; opcodes = u; zero = z; instrs = i }
 
--- an orchestra is read so far, and then one part more, which stands at the end of its list
+-- an orchestra that was read so far, and then one more part, which goes to the end of its list
 module _ (first old : List Symbol) (d : List (List ℕ)) (g : List ℕ) (o : Orc)
     (s : OrcSoFar first (orchestra o) d g old) where
   abbrev opcodes : List Definition
@@ -200,7 +200,7 @@ pub orc_read : (first now : List Symbol) (o : Orchestra) (d : List (List ℕ)) (
     → ReadsOrc [] [] (Ok first) (Ok (o, now))
 orc_read first now o d g s e = orc_whole first now o.head o.opcodes o.zero o.instrs d g s e
 
--- ---- the exits of a `?`, in a call that reads on
+-- ---- the exits of a `?` in a call that continues a reading
 
 pub failed_on : {T U A : Type 0} (see : T → A) (r : Result U (Or OrcFault)) (e : Or OrcFault) (rest first : List Symbol)
     (P : Reading A → Type 0)
@@ -261,7 +261,7 @@ module _ (d : List (List ℕ)) (g : List ℕ) (ts : List Symbol) where
       → IsInstrBody (in_instrument d) d us o → ReadsInstr d g ts (mapped (instrument_of (next ts).line ns) o)
   instr_reads ns us o l k = with_line all_numbers ns us o refl l k
 
--- ---- a definition, part by part: top is the scope of its first line
+-- ---- a definition, part by part; `top` is the scope of its first line
 
 pub no_definition : (d : List (List ℕ)) (ts : List Symbol) (top : Scope) (f : OrcFault) → top ≡ in_definition [] d
     → Err f ≡ heading top (next ts).line (after ts) → ReadsDefinition d ts (Err f)
@@ -317,7 +317,7 @@ definition_reads d ts us h o e (p, (n, b, r, i, k, j, w), l) =
     ∙ closing_mapped s (outside d) expected.Endop (of_inside h) p ∙ ap (mapped (of_inside h)) (sym l))
     (udo_is d ts us h n b r e i k j)
 
--- ---- what parse answers
+-- ---- the result of `parse`
 
 pub failed_orc : (U : Type 0) (r : Result Orc (Or OrcFault)) (e : Or OrcFault) (rest first : List Symbol)
     (so_far : Type 0) → IsErrAnd r (Same e)
@@ -328,7 +328,7 @@ failed_orc U (Err (or.Fault g)) (or.Fault f) rest first so_far i h =
 failed_orc U (Err or.OutOfMemory) e rest first so_far i h = tt
 failed_orc U (Err (or.Fault g)) or.OutOfMemory rest first so_far i h = cc
 
--- the same exit, in a call that reads on
+-- such an exit in a call that continues a reading
 pub failed_items : (T U : Type 0) (r : Result U (Or OrcFault)) (e : Or OrcFault) (first : List Symbol) (P Q : Type 0)
     → IsErrAnd r (Same e)
     → ReadsOn {T = T} (Err e) first P → ReadsOn r first Q

@@ -1,12 +1,12 @@
--- The lines of what is read ascend, where those of the symbols do.
+-- The lines of the parts that were read increase, if the lines of the symbols do.
 use Rattle.std.proofs.Common.{◌≡◌, ◌∙◌, ◌≤◌, ◌<◌, ◌++◌, ℕ, suc, Bool, true, false, List, ◌∷◌, Ok, Err, []}
 use Rattle.std.proofs.Common.{if◌then◌else◌, refl, arith, sym, ap, subst}
 use Rattle.std.specs.List.{All, AllPairs}
 use Rattle.std.proofs.lemmas.List.Elements.{All-nil, All-cons, All-weaker}
 use Rattle.std.proofs.lemmas.List.Kept.{AllPairs-cons}
 use Rattle.cs_words.specs.declared.word.HeadName.{HeadName}
-use Rattle.cs_symbols.specs.{declared.symbol.Kind.Kind, declared.symbol.Expected.Expected, Kinds.is}
-use Rattle.cs_symbols.specs.Symbols.{Symbol, next, after}
+use Rattle.cs_grammar.specs.{declared.symbol.Kind.Kind, declared.symbol.Expected.Expected, Kinds.is}
+use Rattle.cs_grammar.specs.Symbols.{Symbol, next, after}
 use Rattle.cs_grammar.specs.{declared.stmt.LineForm.LineForm, declared.orc.ItemForm.ItemForm}
 use Rattle.cs_grammar.specs.{declared.tree.HeadLine.HeadLine, Parts.is_opcode, Headings.Heading, Inputs.ReadsInputs}
 use Rattle.cs_grammar.specs.Orchestra.{orc_instr, orc_udo, orc_stmt, instrument_of, ReadsInstr, instr, ReadsResult}
@@ -32,28 +32,31 @@ use Rattle.cs_grammar.proofs.FineOrc.{Words, words_after, words_next, NewHeading
 use Rattle.cs_grammar.proofs.FineOrc.{fine_heading, fine_inputs, fine_result, fine_header}
 use Rattle.cs_base.specs.declared.fault.OrcKind.TheVariants as orc
 use Rattle.cs_words.specs.declared.sign.Sign.TheVariants as sign
-use Rattle.cs_symbols.specs.declared.symbol.Kind.TheVariants as kind
-use Rattle.cs_symbols.specs.declared.symbol.Expected.TheVariants as expected
+use Rattle.cs_grammar.specs.declared.symbol.Kind.TheVariants as kind
+use Rattle.cs_grammar.specs.declared.symbol.Expected.TheVariants as expected
 use Rattle.cs_grammar.specs.declared.stmt.LineForm.TheVariants as form
 use Rattle.cs_grammar.specs.declared.orc.ItemForm.TheVariants as item
 
 -- ---- symbols from a line on
 
--- all but End stand from a line on
+-- all symbols except End are on line n or later
 abbrev pub From : ℕ → List Symbol → Type 0
 From n [] = Unit {0}
 From n (t ∷ ts) = (is expected.End t.kind ≡ false → n ≤ t.line) × From n ts
 
--- what stands behind a symbol: on no earlier line, behind a NewLine on later ones, behind End nothing else
+-- the symbols after t: they are on no earlier line, after a NewLine on later ones, and after End there are
+-- none
 pub record Behind (t : Symbol) (ts : List Symbol) : Type 0 where
   pub same : From t.line ts
   pub feed : t.kind ≡ kind.NewLine → From (suc t.line) ts
   pub last : is expected.End t.kind ≡ true → (n : ℕ) → From n ts
 
+-- the symbols are in the order of their lines
 abbrev pub Sorted : List Symbol → Type 0
 Sorted [] = Unit {0}
 Sorted (t ∷ ts) = Behind t ts × Sorted ts
 
+-- the property of symbols from line n on: their words, their order, and their lines
 abbrev pub P : ℕ → List Symbol → Type 0
 P n ts = Words ts × Sorted ts × From n ts
 
@@ -106,7 +109,7 @@ stop n ts (w, s, f) e = (w, s, stop_from (suc n) ts s e)
 weaker : (n : ℕ) (ts : List Symbol) → P (suc n) ts → P n ts
 weaker n ts (w, s, f) = (w, s, from_less n (suc n) ts (omega arith) f)
 
--- from the line of the next symbol on
+-- all symbols are from the line of the next symbol on
 from_own : (ts : List Symbol) → Sorted ts → From (next ts).line ts
 from_own [] s = tt
 from_own (t ∷ ts) s = ((λ e. omega arith), s.0.same)
@@ -121,8 +124,9 @@ from_next n (t ∷ ts) f e = f.0 e
 below : (n : ℕ) (ts : List Symbol) → P n ts → is expected.End (next ts).kind ≡ false → n ≤ (next ts).line
 below n ts (w, s, f) e = from_next n ts f e
 
--- ---- lines that rise from one on, and stay below another
+-- ---- lines that increase, from one line on and below another
 
+-- lines that increase, the first at least n, and all below k
 abbrev pub Rises : ℕ → ℕ → List ℕ → Type 0
 Rises n k [] = n ≤ k
 Rises n k (l ∷ ls) = (n ≤ l) × Rises (suc l) k ls
@@ -149,7 +153,7 @@ pairs n k (l ∷ ls) h =
     (All-weaker (λ m. suc l ≤ m) (λ m. l < m) (λ m e. omega (arith, e)) ls (all_from (suc l) k ls h.1))
     (pairs (suc l) k ls h.1)
 
--- lines of what was read, and where the rest goes on
+-- the lines of the part that was read, and the line from which the rest continues
 record PlacedAt (ls : List ℕ) (n : ℕ) (ts : List Symbol) : Type 0 where
   pub end : ℕ
   pub rises : Rises n end ls
@@ -202,7 +206,7 @@ placed_both k l r n f g (Ok (a, ts)) (Ok (b, us)) h p =
       rest = q.rest;
     }
 
--- one line, and the next behind it
+-- one line, and the next one after it
 lined : {A : Type 0} (k : A → List ℕ) (n m : ℕ) → n ≤ m → (o : Reading A) → Fine (P (suc m)) (λ a. k a ≡ m ∷ []) o
     → Placed k n o
 lined k n m w (Ok (a, ts)) h =

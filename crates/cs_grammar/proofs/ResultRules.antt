@@ -1,4 +1,4 @@
--- The values of `xout`, by their number and by what comes behind their line.
+-- The values of `xout`, by their number and by the symbol after their line.
 use Rattle.std.proofs.Common.{◌≡◌, ◌≢◌, ◌∙◌, ◌==◌, ℕ, Bool, true, false, List, [], ◌∷◌, length, Ok, Err, if◌then◌else◌}
 use Rattle.std.proofs.Common.{refl, ap}
 use Rattle.std.proofs.lemmas.Bool.{eqb-true, eq-eqb, ne_eqb, eqb-false}
@@ -7,9 +7,9 @@ use Rattle.cs_grammar.specs.{Tree.Argument, inner.Takes.results_of, inner.Takes.
 use Rattle.cs_grammar.specs.Reading.{Reading, next_is, Scope, fault}
 use Rattle.cs_grammar.specs.Orchestra.{behind_xout, ReadsXout, ReadsResult, no_result, xout_missing, xout_broken}
 use Rattle.cs_grammar.specs.Orchestra.{xout_uneven, xout_last, xout_not_last}
-use Rattle.cs_symbols.specs.Symbols.{Symbol, next}
+use Rattle.cs_grammar.specs.Symbols.{Symbol, next}
 use Rattle.cs_base.specs.declared.fault.OrcKind.TheVariants as orc
-use Rattle.cs_symbols.specs.declared.symbol.Expected.TheVariants as expected
+use Rattle.cs_grammar.specs.declared.symbol.Expected.TheVariants as expected
 
 abbrev judged_by : Scope → ℕ → List Argument → List Symbol → Bool → Bool → Reading (List Argument)
 judged_by s line vs us even last =

@@ -1,4 +1,4 @@
--- The rules of expressions, as the parser meets them: with what a call has left in place of what the rule says is left.
+-- The rules of expressions, in the form in which the parser uses them: with the symbols that a call leaves.
 use Rattle.std.proofs.Common.{◌≡◌, ◌∙◌, ◌≤◌, ◌+◌, ◌-◌, ℕ, zero, suc, Bool, true, false, List, Result, Ok, Err, Option}
 use Rattle.std.proofs.Common.{Some, None, refl, arith, sym, ap, subst}
 use Rattle.cs_base.specs.{declared.fault.Or.Or, declared.fault.OrcFault.OrcFault}
@@ -10,13 +10,13 @@ use Rattle.cs_grammar.specs.Tree.{Expression, apply, pick}
 use Rattle.cs_grammar.specs.inner.Answers.{Gives, IsClosed, past}
 use Rattle.cs_grammar.specs.Parts.{atom, operator_of, part_form, rank, repeats, tighter}
 use Rattle.cs_grammar.specs.Reading.{Left, Reading, Scope, left, mapped, next_is, three, through}
-use Rattle.cs_symbols.specs.declared.symbol.Expected.{Expected}
-use Rattle.cs_symbols.specs.Symbols.{Symbol, after, next}
+use Rattle.cs_grammar.specs.declared.symbol.Expected.{Expected}
+use Rattle.cs_grammar.specs.Symbols.{Symbol, after, next}
 use Rattle.cs_grammar.proofs.Gives.{both_mapped, left_through, through_is, through_keeps, through_mapped, valued}
 use Rattle.cs_base.specs.declared.fault.Or.TheVariants as or
 use Rattle.cs_grammar.specs.declared.expr.Level.TheVariants as at
 use Rattle.cs_grammar.specs.declared.expr.PartForm.TheVariants as part
-use Rattle.cs_symbols.specs.declared.symbol.Expected.TheVariants as expected
+use Rattle.cs_grammar.specs.declared.symbol.Expected.TheVariants as expected
 
 -- ---- brackets
 
@@ -39,7 +39,7 @@ call_is {s} {ts} g o m (b, k, e) =
     subst (ReadsExpr s at.Fact (Ok ts)) (through_mapped s expected.Close (apply g) b ∙ ap (mapped (apply g)) (sym e))
     (fact_call m k)
 
--- ---- a fault is the reading of every level
+-- ---- a fault is the reading at every level
 
 pub stops : {s : Scope} {f : OrcFault} (l : Level) → ReadsExpr s l (Err f) (Err f)
 stops at.Fact = expr_stop
@@ -63,7 +63,7 @@ picked_through : (s : Scope) (c y : Expression) (us vs : List Symbol) (b : Readi
 picked_through s c y us vs b =
     ap (through s expected.Close) (both_mapped (pick c) y vs b) ∙ through_mapped s expected.Close (pick c y) b
 
--- ---- a choice: after its condition c, which leaves us, comes `?`
+-- ---- a choice: `?` comes after its condition c, which leaves the symbols us
 
 module _ {s : Scope} {ts : List Symbol} (c : Expression) (us : List Symbol) (m : part_form ts ≡ part.Bracket)
     (h : ReadsExpr s at.Expr (Ok (after ts)) (Ok (c, us))) (q : next_is expected.Question us ≡ true) where
@@ -113,7 +113,7 @@ risen (suc n) at.Cmp m e h = up refl (risen n at.Sum m (omega (arith, e)) h)
 risen (suc n) at.And m e h = up refl (risen n at.Cmp m (omega (arith, e)) h)
 risen (suc n) at.Expr m e h = up refl (risen n at.And m (omega (arith, e)) h)
 
--- a fault at a level is one at each looser level
+-- a fault at a level is a fault at each lower precedence level
 pub raised : {s : Scope} {st : Left} {f : OrcFault} (l m : Level) → rank m ≤ rank l → ReadsExpr s m st (Err f)
     → ReadsExpr s l st (Err f)
 raised l m w h = risen (rank l - rank m) l m (omega (arith, w)) h
@@ -129,7 +129,7 @@ right_fails {s} {l} {us = us} a f e t h = by (repeats l) refl
     by true r = one_more e r t h (no_more refl)
     by false r = one_alone e r t h
 
--- ---- a part of one symbol
+-- ---- an operand of one symbol
 
 pub alone : {T : Type 0} (see : T → Expression) (r : Result T (Or OrcFault)) (rest ts : List Symbol) (s : Scope)
     → part_form ts ≡ part.Alone

@@ -1,10 +1,10 @@
--- What stands outside instruments and definitions takes one symbol at least.
+-- Every item outside instruments and definitions uses at least one symbol.
 use Rattle.std.proofs.Common.{◌≡◌, ◌<◌, ◌≤◌, ℕ, List, length, Ok, arith, subst, sym}
 use Rattle.cs_words.specs.declared.word.HeadName.{HeadName}
 use Rattle.cs_grammar.specs.{declared.tree.HeadLine.HeadLine, Grammar.ReadsStmt, Lines.header_line}
 use Rattle.cs_grammar.specs.{Orchestra.ReadsDefinition, Orchestra.ReadsInstr, Reading.Scope, Reading.left}
 use Rattle.cs_grammar.specs.Tree.{Definition, Instrument, Statement}
-use Rattle.cs_symbols.specs.Symbols.{Symbol}
+use Rattle.cs_grammar.specs.Symbols.{Symbol}
 use Rattle.cs_grammar.proofs.{Sizes.size, OneStmt.stmt_less, OneStmt.stmt_is}
 use Rattle.cs_grammar.proofs.OneOrc.{header_less, instr_less, instr_is, definition_less, definition_is}
 

@@ -1,14 +1,15 @@
--- How much is left to read: one more than the symbols, and nothing after a fault. No part leaves more than it was
--- given.
+-- The size of the rest: one more than the number of remaining symbols, and 0 after a fault. No part of a
+-- reading increases it.
 use Rattle.std.proofs.Common.{◌≡◌, ◌<◌, ◌≤◌, ◌+◌, ◌⊎◌, ℕ, Bool, true, false, List, [], ◌∷◌, length, Ok, Err}
 use Rattle.std.proofs.Common.{if◌then◌else◌, refl, arith, inl, inr}
-use Rattle.cs_symbols.specs.{declared.symbol.Kind.Kind, declared.symbol.Expected.Expected}
-use Rattle.cs_symbols.specs.Symbols.{Symbol, after, next}
+use Rattle.cs_grammar.specs.{declared.symbol.Kind.Kind, declared.symbol.Expected.Expected}
+use Rattle.cs_grammar.specs.Symbols.{Symbol, after, next}
 use Rattle.cs_grammar.specs.Reading.{Left, Reading, Scope, both, ended, left, line_end, mapped, misfit, next_is, skip}
 use Rattle.cs_grammar.specs.Reading.{three, through}
 use Rattle.cs_base.specs.declared.fault.OrcKind.TheVariants as orc
-use Rattle.cs_symbols.specs.declared.symbol.Kind.TheVariants as kind
+use Rattle.cs_grammar.specs.declared.symbol.Kind.TheVariants as kind
 
+-- the size of the rest
 abbrev pub size : Left → ℕ
 size (Ok ts) = length ts + 1
 size (Err f) = 0

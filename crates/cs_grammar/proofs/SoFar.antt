@@ -1,4 +1,4 @@
--- Lists that are read item after item: what has been read so far, and one item more.
+-- Lists that are read item by item: the items so far, and one more item.
 use Rattle.std.proofs.Common.{◌≡◌, ◌∙◌, ◌++◌, ℕ, Bool, true, false, List, [], ◌∷◌, map, Option, Some, None, Ok, Err}
 use Rattle.std.proofs.Common.{if◌then◌else◌, refl, sym, ap, subst}
 use Rattle.std.proofs.lemmas.List.{append_assoc}
@@ -8,13 +8,14 @@ use Rattle.cs_grammar.specs.{Tree.argument, inner.Rows.behind, inner.Rows.row}
 use Rattle.cs_grammar.specs.Grammar.{ReadsArg, ReadsList, list_last, list_more}
 use Rattle.cs_grammar.specs.Lines.{fresh, instrument_number, no_target, number_at, one_number, one_target}
 use Rattle.cs_grammar.specs.Reading.{Reading, Scope, both, fault, has_number, mapped, misfit, next_is}
-use Rattle.cs_symbols.specs.{declared.symbol.Kind.Kind, Kinds.is, Symbols.Symbol, Symbols.after}
+use Rattle.cs_grammar.specs.{declared.symbol.Kind.Kind, Kinds.is, Symbols.Symbol, Symbols.after}
 use Rattle.cs_base.specs.declared.fault.OrcKind.TheVariants as orc
-use Rattle.cs_symbols.specs.declared.symbol.Kind.TheVariants as kind
-use Rattle.cs_symbols.specs.declared.symbol.Expected.TheVariants as expected
+use Rattle.cs_grammar.specs.declared.symbol.Kind.TheVariants as kind
+use Rattle.cs_grammar.specs.declared.symbol.Expected.TheVariants as expected
 
--- ---- a list with more in front
+-- ---- a list with more items in front
 
+-- a reading of a list with more items in front
 abbrev pub prefixed : {A : Type 0} → List A → Reading (List A) → Reading (List A)
 prefixed xs o = mapped (λ ys. xs ++ ys) o
 
@@ -27,7 +28,7 @@ pub prefixed_more : {A : Type 0} (xs : List A) (x : A) (o : Reading (List A))
 prefixed_more xs x (Err f) = refl
 prefixed_more xs x (Ok (ys, ts)) = ap (λ zs. Ok (zs, ts)) (sym (append_assoc xs (x ∷ []) ys))
 
--- ---- items with commas between them
+-- ---- comma-separated items
 
 -- an item is one symbol
 abbrev pub TakesOne : {A : Type 0} → (List A → List Symbol → Reading A) → Type 0
@@ -35,7 +36,7 @@ TakesOne {A} one = (before : List A) (ts us : List Symbol) (x : A) → one befor
     → (t : Symbol) × (ts ≡ t ∷ us)
 
 module _ {A : Type 0} (one : List A → List Symbol → Reading A) where
-  -- what follows an item: a comma and more of them, or no more
+  -- the symbols after an item: a comma and more items, or no more items
   abbrev pub row_behind : List A → List Symbol → Bool → Reading (List A)
   row_behind before ts true = row one before (after ts)
   row_behind before ts false = Ok ([], ts)
@@ -64,7 +65,7 @@ module _ {A : Type 0} (one : List A → List Symbol → Reading A) where
       by true = ap (λ o. behind o (λ y. row one (before ++ y ∷ []) us)) e
       by false = ap (mapped (λ y. y ∷ [])) e
 
-  -- the items that were read so far, with those from here on behind them
+  -- the items so far, followed by the items from here on, are the entire list
   abbrev pub RowSoFar : List A → List Symbol → List A → List A → List Symbol → Type 0
   RowSoFar first old xs before now = row one first old ≡ prefixed xs (row one before now)
 
@@ -138,7 +139,7 @@ both_first : {A : Type 0} (x : A) (mid : List Symbol) (o : Reading (List A))
 both_first x mid (Ok (ys, ts)) = refl
 both_first x mid (Err f) = refl
 
--- however the list from here on is read, so is the whole, with what was read so far in front
+-- every reading of the rest, with the items so far in front, is a reading of the entire list
 abbrev pub ListSoFar : Scope → Role → List Symbol → List Argument → List Symbol → Type 0
 ListSoFar s r old xs now =
     (out : Reading (List Argument)) → ReadsList s r (Ok now) out → ReadsList s r (Ok old) (prefixed xs out)

@@ -1,4 +1,4 @@
--- Steps of the parser along the tokens.
+-- The parser's steps through the tokens.
 use Rattle.std.proofs.Common.{◌≡◌, ◌<◌, ◌≤◌, ◌+◌, ◌^◌, ◌∙◌, ℕ, suc, Bool, true, false, not, List, [], ◌∷◌, length}
 use Rattle.std.proofs.Common.{Option, Some, None, if◌then◌else◌, refl, sym, ap, subst, arith}
 use Rattle.std.specs.{List.All, Option.IfSome}
@@ -6,18 +6,18 @@ use Rattle.std.proofs.lemmas.List.Elements.{All-head, All-tail}
 use Rattle.cs_lex.specs.declared.token.Token.{Token}
 use Rattle.cs_grammar.specs.{Inputs.is_free, inner.Takes.plus_one, inner.Takes.input_count, Reading.next_is}
 use Rattle.cs_grammar.specs.{Reading.Scope}
-use Rattle.cs_symbols.specs.Kinds.{is}
-use Rattle.cs_symbols.specs.Symbols.{Symbol, symbols_from, counted, Spanned, next, after}
-use Rattle.cs_symbols.specs.declared.symbol.Expected.TheVariants as expected
+use Rattle.cs_grammar.specs.Kinds.{is}
+use Rattle.cs_grammar.specs.Symbols.{Symbol, symbols_from, counted, Spanned, next, after}
+use Rattle.cs_grammar.specs.declared.symbol.Expected.TheVariants as expected
 
--- the bytes of all tokens stand in the text
+-- the bytes of all tokens are within the text
 pub spanned : (size : ℕ) (ts : List Token) → All (λ t. (t.from ≤ t.to) × (t.to ≤ size)) ts → Spanned size ts
 spanned size [] h = tt
 spanned size (t ∷ ts) h =
     let one = All-head (λ u. (u.from ≤ u.to) × (u.to ≤ size)) t ts h in
     (one.0, one.1, spanned size ts (All-tail (λ u. (u.from ≤ u.to) × (u.to ≤ size)) t ts h))
 
--- a token is one symbol
+-- each token is one symbol
 pub symbols_length : (source : List ℕ) (place : ℕ) (ts : List Token) → length (symbols_from source place ts) ≡ length ts
 symbols_length source place [] = refl
 symbols_length source place (t ∷ ts) = ap (λ n. suc n) (symbols_length source (counted place t.mark) ts)
@@ -37,7 +37,7 @@ past_comma [] c = absurd (cc c)
 past_comma (t ∷ []) c = absurd (cc c)
 past_comma (t ∷ d ∷ us) c = omega arith
 
--- no more words than symbols, and one at least
+-- there is at least one word, and there are no more words than symbols
 words_within : (s : Scope) (ts : List Symbol) → IfSome (input_count s ts) (λ n. (n ≤ length ts) × (1 ≤ n))
 words_within s [] = tt
 words_within s (t ∷ []) = tt

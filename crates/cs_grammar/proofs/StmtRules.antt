@@ -1,4 +1,4 @@
--- The rules of statements, as the parser meets them.
+-- The rules of statements, in the form in which the parser uses them.
 use Rattle.std.proofs.Common.{◌≡◌, ◌∙◌, ◌≤◌, ◌<◌, ◌++◌, ℕ, true, false, List, [], ◌∷◌, length, map, Result, Ok, Err}
 use Rattle.std.proofs.Common.{refl, arith, sym, ap, subst}
 use Rattle.cs_base.specs.{declared.fault.Or.Or, declared.fault.OrcFault.OrcFault}
@@ -12,29 +12,34 @@ use Rattle.cs_grammar.specs.Reading.{Left, Reading, Scope, both, ended, left, ma
 use Rattle.cs_grammar.specs.Tree.{Argument, Arms, Block, Expression, Statement, andthen, argument, arm, arms, block}
 use Rattle.cs_grammar.specs.Tree.{call, expression, no_stmt, otherwise, statement}
 use Rattle.cs_grammar.specs.inner.Answers.{Gives, IsArm, IsClosed, IsCondition, line_past, past}
-use Rattle.cs_symbols.specs.Symbols.{Symbol, after, next}
+use Rattle.cs_grammar.specs.Symbols.{Symbol, after, next}
 use Rattle.std.specs.Global.{Vec}
 use Rattle.cs_grammar.proofs.Gives.{closing_keeps, through_is, ended_is, valued, left_valued}
 use Rattle.cs_grammar.proofs.{OneRow.reads_targets, OneStmt.stmt_less, OneStmt.stmt_is, OneStmt.same_block, Sizes.size}
 use Rattle.cs_base.specs.declared.fault.Or.TheVariants as or
 use Rattle.cs_grammar.specs.declared.expr.Level.TheVariants as at
 use Rattle.cs_grammar.specs.declared.stmt.LineForm.TheVariants as form
-use Rattle.cs_symbols.specs.declared.symbol.Expected.TheVariants as expected
+use Rattle.cs_grammar.specs.declared.symbol.Expected.TheVariants as expected
 
--- ---- what a call gives, as the grammar sees it
+-- ---- the results of calls, as the grammar sees them
 
+-- the mirror of arguments
 abbrev pub args_in : Vec Arg → List Argument
 args_in v = map argument v.items
 
+-- the mirror of statements
 abbrev pub stmts_in : Vec OrcStmt → Block
 stmts_in v = block v.items
 
+-- the mirror of an arm
 abbrev pub arm_in : Arm → Expression × Block
 arm_in a = (expression (out-Arm a).cond, block (out-Arm a).body.items)
 
+-- the mirror of the statements after `else`
 abbrev pub else_in : Vec OrcStmt → Arms
 else_in v = otherwise (block v.items)
 
+-- the mirror of arms with the statements after `else`
 abbrev pub chain_in : (Vec Arm × Vec OrcStmt) → Arms
 chain_in p = arms (block p.1.items) p.0.items
 
@@ -77,7 +82,7 @@ module _ (s : Scope) (ts : List Symbol) where
       → ReadsStmt s ts (valued x st)
   line_is x mid st h e = subst (ReadsStmt s ts) (ended_is s x mid st e) h
 
-  -- a statement takes one symbol at least
+  -- a statement uses at least one symbol
   pub stmt_shorter : (x : Statement) (rest : List Symbol) → ReadsStmt s ts (Ok (x, rest)) → length rest < length ts
   stmt_shorter x rest h =
       let is : size (Ok rest) ≤ length ts = subst (λ o. size (left o) ≤ length ts) (stmt_is h) (stmt_less s ts) in
@@ -85,7 +90,7 @@ module _ (s : Scope) (ts : List Symbol) where
 
 -- ---- blocks
 
--- statements in front of a block
+-- statements, followed by a block
 abbrev pub with_all : List OrcStmt → Block → Block
 with_all [] b = b
 with_all (x ∷ xs) b = andthen (statement x) (with_all xs b)
@@ -99,7 +104,8 @@ with_all_none : (xs : List OrcStmt) → with_all xs no_stmt ≡ block xs
 with_all_none [] = refl
 with_all_none (x ∷ xs) = ap (andthen (statement x)) (with_all_none xs)
 
--- however the statements from here on are read, so is the whole, with the statements so far in front
+-- every reading of the remaining statements, with the statements so far in front, is a reading of the entire
+-- block
 abbrev pub BlockSoFar : Scope → List Symbol → List OrcStmt → List Symbol → Type 0
 BlockSoFar s old xs now =
     (out : Reading Block) → ReadsBlock s (Ok now) out → ReadsBlock s (Ok old) (mapped (with_all xs) out)
@@ -133,13 +139,15 @@ block_done s old now xs h e =
 
 -- ---- arms
 
--- arms in front of a chain
+-- arms, followed by a chain
 abbrev pub cond_of : Arm → Expression
 cond_of a = expression (out-Arm a).cond
 
+-- the mirror of an arm's statements
 abbrev pub body_of : Arm → Block
 body_of a = block (out-Arm a).body.items
 
+-- the mirror of arms, followed by a chain
 abbrev pub chained : List Arm → Arms → Arms
 chained [] r = r
 chained (a ∷ xs) r = arm (cond_of a) (body_of a) (chained xs r)
@@ -153,7 +161,7 @@ chained_last : (xs : List Arm) (b : Block) → chained xs (otherwise b) ≡ arms
 chained_last [] b = refl
 chained_last (y ∷ xs) b = ap (arm (cond_of y) (body_of y)) (chained_last xs b)
 
--- however the arms from here on are read, so is the whole, with the arms so far in front
+-- every reading of the remaining arms, with the arms so far in front, is a reading of the entire chain
 abbrev pub ArmsSoFar : Scope → List Symbol → List Arm → List Symbol → Type 0
 ArmsSoFar s old xs now =
     (out : Reading Arms) → ReadsArms s (Ok now) out → ReadsArms s (Ok old) (mapped (chained xs) out)
@@ -163,7 +171,7 @@ three_is : (c : Expression) (b : Block) (m n : List Symbol) (out : Reading Arms)
 three_is c b m n (Ok (r, ts)) = refl
 three_is c b m n (Err f) = refl
 
--- an arm that is read, and what follows it
+-- an arm that was read, and the rest of the `if`
 arm_read : (s : Scope) (ts now : List Symbol) (c : Expression) (b : Block) (out : Reading Arms)
     → IsArm s ts (Ok ((c, b), now)) → ReadsMore s (Ok now) out
     → ReadsArms s (Ok ts) (mapped (arm c b) out)
@@ -301,7 +309,7 @@ module _ {s : Scope} {ts : List Symbol} (i : next_is expected.Elseif ts ≡ fals
       subst (ReadsMore s (Ok ts)) (through_is s expected.Endif (otherwise b) vs st p) (more_else i e
       (subst (λ x. ReadsBlock s x (Ok (b, vs))) (sym (else_line s ts (Ok us) g)) k))
 
--- ---- one reading seen as another
+-- ---- a reading that satisfies a weaker property
 
 pub weaker : {T A : Type 0} (see : T → A) (r : Result T (Or OrcFault)) (rest : List Symbol) (P Q : Reading A → Type 0)
     → ((o : Reading A) → P o → Q o)

@@ -1,4 +1,4 @@
--- Every tree is well formed, and its lines ascend.
+-- Every tree is well formed, and its lines increase.
 use Rattle.std.proofs.Common.{◌≡◌, ◌≢◌, ◌∙◌, ◌≤◌, ◌<◌, ◌++◌, ◌+◌, ◌-◌, ◌&&◌, inl, inr, codes, Option, Some, None, take}
 use Rattle.std.proofs.Common.{drop, ℕ, suc, Bool, true, false, [], List, ◌∷◌, length, nat_le, if◌then◌else◌, refl}
 use Rattle.std.proofs.Common.{arith, sym, ap, subst}
@@ -11,13 +11,13 @@ use Rattle.cs_base.specs.Lines.{Excerpt, begins}
 use Rattle.std.proofs.lemmas.{Bool.and_parts, List.append_assoc}
 use Rattle.cs_grammar.specs.{Tree.Orchestra, Orchestra.Tree}
 use Rattle.cs_grammar.specs.WellFormed.{HasNoStop, IsWellFormed, InOrder}
-use Rattle.cs_symbols.specs.{declared.symbol.Kind.Kind, Kinds.is}
-use Rattle.cs_symbols.specs.Symbols.{Symbol, symbols, symbols_from, kind_after, kind_of_mark, counted, bytes_of}
+use Rattle.cs_grammar.specs.{declared.symbol.Kind.Kind, Kinds.is}
+use Rattle.cs_grammar.specs.Symbols.{Symbol, symbols, symbols_from, kind_after, kind_of_mark, counted, bytes_of}
 use Rattle.cs_grammar.proofs.FineOrc.{NoStops, Words, words_after, words_next, words_from, fine_orc}
 use Rattle.cs_grammar.proofs.Order.{From, Sorted, in_order}
 use Rattle.cs_lex.specs.declared.token.Mark.TheVariants as mark
-use Rattle.cs_symbols.specs.declared.symbol.Kind.TheVariants as kind
-use Rattle.cs_symbols.specs.declared.symbol.Expected.TheVariants as expected
+use Rattle.cs_grammar.specs.declared.symbol.Kind.TheVariants as kind
+use Rattle.cs_grammar.specs.declared.symbol.Expected.TheVariants as expected
 
 -- ---- words have no full stop
 
@@ -109,7 +109,7 @@ tree_is_well_formed text tokens o l (rest, h) =
       opcodes = f.opcodes;
     }
 
--- ---- symbols stand as their tokens do
+-- ---- symbols are on the lines of their tokens
 
 abbrev or_beyond : Bool → Kind → Kind
 or_beyond b k = if b then kind.Beyond else k
@@ -174,7 +174,7 @@ from_all source place n (u ∷ us) h = (
   from_all source (counted place u.mark) n us (All-tail (λ u. u.mark ≢ mark.End → n ≤ u.line) u us h),
 )
 
--- End is the last token and no other
+-- End is the last token and appears only there
 abbrev EndsLast : List Token → Type 0
 EndsLast [] = Unit {0}
 EndsLast (t ∷ ts) = (t.mark ≡ mark.End → ts ≡ []) × EndsLast ts

@@ -1,5 +1,6 @@
--- The grammar, by its cases. Each relation is between what is left of a text and the reading of it: the tree and what
--- is then left, or the first fault. Each rule is one case; a fault ends the reading of every part that would follow.
+-- The grammar, with one case for each rule. Each relation is between the remaining symbols of a text and
+-- their reading: a tree with the symbols that remain after it, or the first fault. After a fault, nothing
+-- further is read.
 use Rattle.std.specs.Prelude.{ℕ, Bool, true, false, List, [], ◌∷◌, ◌≡◌, ◌||◌, nat_lt, if◌then◌else◌, Some, None, Ok}
 use Rattle.std.specs.Prelude.{Err}
 use Rattle.cs_base.specs.declared.fault.OrcFault.{OrcFault}
@@ -11,20 +12,21 @@ use Rattle.cs_grammar.specs.Reading.{Left, Reading, left, mapped, both, three, s
 use Rattle.cs_grammar.specs.Reading.{fault, misfit, through, ended}
 use Rattle.cs_grammar.specs.Parts.{tighter, repeats, operator, part_form, atom}
 use Rattle.cs_grammar.specs.Lines.{line_form, target, ReadsTargets, operation}
-use Rattle.cs_symbols.specs.{declared.symbol.Kind.Kind, Kinds.is, Kinds.ends_line}
-use Rattle.cs_symbols.specs.Symbols.{Symbol, next, after}
+use Rattle.cs_grammar.specs.{declared.symbol.Kind.Kind, Kinds.is, Kinds.ends_line}
+use Rattle.cs_grammar.specs.Symbols.{Symbol, next, after}
 use Rattle.cs_base.specs.declared.fault.OrcKind.TheVariants as orc
 use Rattle.cs_words.specs.declared.sign.BinOp.TheVariants as op
 use Rattle.cs_words.specs.declared.sign.Sign.TheVariants as sign
-use Rattle.cs_symbols.specs.declared.symbol.Kind.TheVariants as kind
-use Rattle.cs_symbols.specs.declared.symbol.Expected.TheVariants as expected
+use Rattle.cs_grammar.specs.declared.symbol.Kind.TheVariants as kind
+use Rattle.cs_grammar.specs.declared.symbol.Expected.TheVariants as expected
 use Rattle.cs_grammar.specs.declared.lists.Role.TheVariants as role
 use Rattle.cs_grammar.specs.declared.scope.Place.TheVariants as place
 use Rattle.cs_grammar.specs.declared.expr.Level.TheVariants as level
 use Rattle.cs_grammar.specs.declared.expr.PartForm.TheVariants as part
 use Rattle.cs_grammar.specs.declared.stmt.LineForm.TheVariants as form
 
--- An expression of a level: `expr`, `and`, `cmp`, `sum`, `term` by their operators, and `fact` by how it begins.
+-- An expression of a level: `expr`, `and`, `cmp`, `sum` and `term` by their operators, and `fact` by its
+-- first symbols.
 mutual
   pub data ReadsExpr (s : Scope) : Level → Left → Reading Expression → Type 0 where
     binary : {l m : Level} {st : Left} {o out : Reading Expression} → tighter l ≡ Some m
@@ -44,7 +46,7 @@ mutual
         → ReadsExpr s level.Fact (Ok ts) (through s expected.Close (three pick c a b))
     fact_alone : {ts : List Symbol} → part_form ts ≡ part.Alone → ReadsExpr s level.Fact (Ok ts) (atom s ts)
 
-  -- the operators of a level, and their right sides, grouped to the left
+  -- the operators of a level and their right sides, grouped to the left
   pub data ReadsTail (s : Scope) : Level → Reading Expression → Reading Expression → Type 0 where
     no_more : {l : Level} {o : Reading Expression} → operator l (left o) ≡ None → ReadsTail s l o o
     one_more : {l m : Level} {op : BinOp} {o b out : Reading Expression} → operator l (left o) ≡ Some op
@@ -54,7 +56,7 @@ mutual
         → repeats l ≡ false → tighter l ≡ Some m → ReadsExpr s m (skip (left o)) b
         → ReadsTail s l o (both (pair op) o b)
 
--- arg: no text may be a result of a definition
+-- arg: a text can't be a result of a definition
 pub data ReadsArg (s : Scope) : Role → List Symbol → Reading Argument → Type 0 where
   arg_text : {ts : List Symbol} → next_is expected.Text ts ≡ true
       → ReadsArg s role.Argument ts (Ok (text (next ts).text, after ts))
@@ -63,7 +65,7 @@ pub data ReadsArg (s : Scope) : Role → List Symbol → Reading Argument → Ty
   arg_value : {r : Role} {ts : List Symbol} {o : Reading Expression} → next_is expected.Text ts ≡ false
       → ReadsExpr s level.Expr (Ok ts) o → ReadsArg s r ts (mapped value o)
 
--- args
+-- args: arguments or results, at least one
 pub data ReadsList (s : Scope) (r : Role) : Left → Reading (List Argument) → Type 0 where
   list_stop : {f : OrcFault} → ReadsList s r (Err f) (Err f)
   list_last : {ts : List Symbol} {o : Reading Argument} → ReadsArg s r ts o → meets expected.Comma (left o) ≡ false
@@ -72,19 +74,20 @@ pub data ReadsList (s : Scope) (r : Role) : Left → Reading (List Argument) →
       → meets expected.Comma (left o) ≡ true → ReadsList s r (skip (left o)) out
       → ReadsList s r (Ok ts) (both ◌∷◌ o out)
 
--- [ args ], up to the end of the line
+-- [ args ]: the arguments up to the end of the line; there may be none
 pub data ReadsArgs (s : Scope) : Left → Reading (List Argument) → Type 0 where
   args_stop : {f : OrcFault} → ReadsArgs s (Err f) (Err f)
   args_none : {ts : List Symbol} → ends_line (next ts).kind ≡ true → ReadsArgs s (Ok ts) (Ok ([], ts))
   args_some : {ts : List Symbol} {out : Reading (List Argument)} → ends_line (next ts).kind ≡ false
       → ReadsList s role.Argument (Ok ts) out → ReadsArgs s (Ok ts) out
 
--- what ends the statements of an `if`, an instrument or a definition
+-- whether a symbol ends the statements of an instrument or a definition
 abbrev pub ends_part : Place → Kind → Bool
 ends_part place.Outside k = false
 ends_part place.Instrument k = is expected.Endin k
 ends_part place.Definition k = is expected.Endop k || is expected.Xout k
 
+-- whether a symbol ends the statements of an `if`, an instrument or a definition
 abbrev pub ends_block : Scope → Kind → Bool
 ends_block s k =
     if nat_lt 0 s.depth then is expected.Elseif k || is expected.Else k || is expected.Endif k else ends_part s.place k
@@ -114,7 +117,7 @@ mutual
     stmt_misplaced : {s : Scope} {ts : List Symbol} → line_form s ts ≡ form.Misplaced
         → ReadsStmt s ts (Err (misfit s orc.Unexpected ts))
 
-  -- { stmt }
+  -- { stmt }: statements, up to the symbol that ends them
   pub data ReadsBlock : Scope → Left → Reading Block → Type 0 where
     block_stop : {s : Scope} {f : OrcFault} → ReadsBlock s (Err f) (Err f)
     block_end : {s : Scope} {ts : List Symbol} → ends_block s (next ts).kind ≡ true
@@ -123,7 +126,7 @@ mutual
         → ends_block s (next ts).kind ≡ false → ReadsStmt s ts o → ReadsBlock s (left o) out
         → ReadsBlock s (Ok ts) (both andthen o out)
 
-  -- after `if` or `elseif`: expr "then" NewLine { stmt }, and what follows
+  -- after `if` or `elseif`: expr "then" NewLine { stmt }, and the rest of the `if`
   pub data ReadsArms : Scope → Left → Reading Arms → Type 0 where
     arm_more : {s : Scope} {st : Left} {c : Reading Expression} {body : Reading Block} {rest : Reading Arms}
         → ReadsExpr s level.Expr st c → ReadsBlock s (left (ended s (through s expected.Then c))) body

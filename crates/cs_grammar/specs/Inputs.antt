@@ -5,15 +5,17 @@ use Rattle.cs_base.specs.declared.resource.Rate.{Rate}
 use Rattle.cs_words.specs.Names.{is_global, name_rate}
 use Rattle.cs_grammar.specs.{Headings.Heading, Parts.is_variable, Parts.is_opcode}
 use Rattle.cs_grammar.specs.Reading.{Reading, next_is, Scope, fault, ended}
-use Rattle.cs_symbols.specs.{Symbols.Symbol, Symbols.after, Kinds.is, Kinds.is_plain}
+use Rattle.cs_grammar.specs.{Symbols.Symbol, Symbols.after, Kinds.is, Kinds.is_plain}
 use Rattle.cs_base.specs.declared.fault.OrcKind.TheVariants as orc
-use Rattle.cs_symbols.specs.declared.symbol.Expected.TheVariants as expected
+use Rattle.cs_grammar.specs.declared.symbol.Expected.TheVariants as expected
 
--- a word of the profile that is neither a keyword nor an opcode, one defined before among them
+-- whether a symbol is a word of the profile that is neither a keyword nor an opcode, including opcodes
+-- defined before
 abbrev pub is_free : Scope → Symbol → Bool
 is_free s t = is_plain t.kind && not (is_opcode s t.text t.kind)
 
--- A line of `xin`: free words with commas between them, and then `xin`. Its words, and what stands from `xin` on.
+-- A line of `xin`: free words separated by commas, followed by `xin`. It relates the symbols to the words and
+-- to the symbols from `xin` on.
 pub data XinLine (s : Scope) : List Symbol → List Symbol → List Symbol → Type 0 where
   one_word : {t : Symbol} {xin : List Symbol} → is_free s t ≡ true → next_is expected.Xin xin ≡ true
       → XinLine s (t ∷ xin) (t ∷ []) xin
@@ -21,24 +23,25 @@ pub data XinLine (s : Scope) : List Symbol → List Symbol → List Symbol → T
       → is expected.Comma comma.kind ≡ true
       → XinLine s ts words xin → XinLine s (t ∷ comma ∷ ts) (t ∷ words) xin
 
--- a variable that each call has for itself
+-- whether a symbol is a local variable, which each call has separately
 abbrev pub is_local : Scope → Symbol → Bool
 is_local s t = is_variable s t && not (is_global t.text)
 
+-- the bytes of the symbols
 abbrev pub texts : List Symbol → List (List ℕ)
 texts ts = map (λ t. t.text) ts
 
--- none stands twice
+-- no item occurs twice
 abbrev pub AreDifferent : {A : Type 0} → List A → Type 0
 AreDifferent xs = AllPairs (λ x y. x ≢ y) xs
 
--- words that name the inputs: different local variables, one for each letter, of its rate
+-- words that name the inputs: different local variables, one for each input, with its rate
 pub record NameInputs (s : Scope) (ins : List Rate) (words : List Symbol) : Type 0 where
   pub local : All (λ t. is_local s t ≡ true) words
   pub rates : map name_rate (texts words) ≡ ins
   pub different : AreDifferent (texts words)
 
--- The first line of a definition: the names that take its inputs.
+-- The first line of a definition: the names that receive its inputs.
 pub data ReadsInputs (s : Scope) (h : Heading) (ts : List Symbol) : Reading (List (List ℕ)) → Type 0 where
   named : {words xin : List Symbol} → XinLine s ts words xin → NameInputs s h.ins words
       → ReadsInputs s h ts (ended s (Ok (texts words, after xin)))

@@ -1,11 +1,13 @@
 pub mod Grammar
 pub mod Headings
 pub mod Inputs
+pub mod Kinds
 pub mod Lines
 pub mod Orchestra
 pub mod Parts
 pub mod Reading
 pub mod Renaming
+pub mod Symbols
 pub mod Tree
 pub mod WellFormed
 pub mod inner

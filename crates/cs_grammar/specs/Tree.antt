@@ -1,4 +1,5 @@
--- The tree of an orchestra as definitions see it: the same shapes, without boxes' addresses and vectors' capacities.
+-- The tree of an orchestra as definitions see it: the same shapes, without the addresses of boxes and the
+-- capacities of vectors.
 use Rattle.std.specs.Prelude.{ℕ, ℤ, List, [], ◌∷◌, map}
 use Rattle.cs_base.specs.declared.resource.Rate.{Rate}
 use Rattle.cs_words.specs.{declared.word.HeadName.HeadName, declared.sign.BinOp.BinOp, declared.word.Func.Func}
@@ -48,7 +49,7 @@ pub record Instrument : Type 0 where
   pub numbers : List ℕ
   pub body : Block
 
--- a defined opcode, with the line of its `opcode`
+-- a user-defined opcode, with the line of its `opcode`
 pub record Definition : Type 0 where
   pub line : ℕ
   pub name : List ℕ
@@ -65,7 +66,7 @@ pub record Orchestra : Type 0 where
   pub zero : Block
   pub instrs : List Instrument
 
--- what the code's tree is among these
+-- the mirror of an expression in the code's tree
 abbrev pub expression : Expr → Expression
 expression (Number v) = number v
 expression (Var name) = var name
@@ -76,6 +77,7 @@ expression (Pair' op p a q b) = pair op (expression a) (expression b)
 expression (Pick' p c q a r b) = pick (expression c) (expression a) (expression b)
 expression (Call' f p a) = apply f (expression a)
 
+-- the mirror of an argument
 abbrev pub argument : Arg → Argument
 argument (Value e) = value (expression e)
 argument (Text bytes) = text bytes
@@ -94,27 +96,30 @@ abbrev mutual
   of_arms els end_of-Arm = otherwise els
   of_arms els (more_of-Arm (Arm' cond s body) rest) = arm (expression cond) (of_block body) (of_arms els rest)
 
+-- the mirror of a statement
 abbrev pub statement : OrcStmt → Statement
 statement s = of_what s.line s.what
 
--- statements of a list
+-- the mirror of a list of statements
 abbrev pub block : List OrcStmt → Block
 block [] = no_stmt
 block (s ∷ ss) = andthen (statement s) (block ss)
 
--- statements, and then others
+-- the statements of two blocks, one after the other
 abbrev pub joins : Block → Block → Block
 joins no_stmt b = b
 joins (andthen x rest) b = andthen x (joins rest b)
 
--- arms of a list, and the statements after `else`
+-- the mirror of a list of arms, with the statements after `else`
 abbrev pub arms : Block → List Arm → Arms
 arms els [] = otherwise els
 arms els (a ∷ rest) = arm (expression (out-Arm a).cond) (block (out-Arm a).body.items) (arms els rest)
 
+-- the mirror of an instrument
 abbrev pub instrument : Instr → Instrument
 instrument i = record { line = i.line; numbers = i.numbers; body = block i.body.items }
 
+-- the mirror of a definition
 abbrev pub definition : Udo → Definition
 definition u = record {
   line = u.line;
@@ -126,6 +131,7 @@ definition u = record {
   result = map argument u.result.items;
 }
 
+-- the mirror of an orchestra
 abbrev pub orchestra : Orc → Orchestra
 orchestra o = record {
   head = o.head.items;

@@ -1,4 +1,4 @@
--- What holds of every tree of a text: ranges, names, places of calls, and the order of lines.
+-- Properties of every tree of a text: ranges, names, the contexts of calls, and the order of lines.
 use Rattle.std.specs.Prelude.{ℕ, true, false, List, [], ◌∷◌, ◌++◌, ◌≡◌, ◌≢◌, ◌≤◌, ◌<◌, ◌+◌, length, map}
 use Rattle.std.specs.{Str.byte, List.All, List.AllPairs}
 use Rattle.cs_words.specs.{declared.catalogue.Opcode.Opcode, Catalogue.row_of}
@@ -13,15 +13,15 @@ use Rattle.cs_words.specs.declared.catalogue.Opcode.TheVariants as opcode
 use Rattle.cs_grammar.specs.declared.scope.Place.TheVariants as place
 use Rattle.cs_grammar.specs.declared.tree.Callee.TheVariants as callee
 
--- no full stop in a name: one that has it is no name of a text
+-- a name without a full stop: a name with one can't come from a text
 abbrev pub HasNoStop : List ℕ → Type 0
 HasNoStop n = All (λ b. b ≢ byte ".") n
 
--- a variable's name begins with the letter of its rate, behind a g or not
+-- a variable's name: it begins with the letter of its rate, optionally after a g
 abbrev pub IsVariable : List ℕ → Type 0
 IsVariable n = (is_name n ≡ true) × HasNoStop n
 
--- an expression whose variables are names, and whose fields are p1 to p100
+-- an expression whose variables are valid names, and whose fields are p1 to p100
 abbrev pub WellFormedExpr : Expression → Type 0
 WellFormedExpr (number v) = Unit {0}
 WellFormedExpr (var n) = IsVariable n
@@ -32,31 +32,34 @@ WellFormedExpr (pair op a b) = WellFormedExpr a × WellFormedExpr b
 WellFormedExpr (pick c a b) = WellFormedExpr c × WellFormedExpr a × WellFormedExpr b
 WellFormedExpr (apply f a) = WellFormedExpr a
 
+-- an argument whose value is well formed; any text is
 abbrev pub WellFormedArg : Argument → Type 0
 WellFormedArg (value e) = WellFormedExpr e
 WellFormedArg (text t) = Unit {0}
 
--- no text, but a value
+-- a value, not a text
 abbrev pub WellFormedValue : Argument → Type 0
 WellFormedValue (value e) = WellFormedExpr e
 WellFormedValue (text t) = ⊥
 
--- what may be called: in an instrument or a definition no `zakinit`, in a definition not itself
+-- what may be called in a context: no `zakinit` in an instrument or a definition, and not a definition itself
+-- within it
 abbrev pub MayCall : Place → List ℕ → Callee → Type 0
 MayCall place.Outside own c = Unit {0}
 MayCall place.Instrument own c = c ≢ callee.Opcode opcode.Zakinit
 MayCall place.Definition own c = (c ≢ callee.Opcode opcode.Zakinit) × (c ≢ callee.Name own)
 
--- a name that is called is that of no opcode of the catalogue
+-- a called name differs from all names in the catalogue
 abbrev pub IsCallee : Callee → Type 0
 IsCallee (callee.Opcode o) = Unit {0}
 IsCallee (callee.Name n) = HasNoStop n × ((o : Opcode) → n ≢ (row_of o).name)
 
--- what is called at a place
+-- a valid call in a context
 abbrev pub IsCall : Place → List ℕ → Callee → Type 0
 IsCall p own c = IsCallee c × MayCall p own c
 
--- Statements at a place, in the definition of a name, inside `depth` `if`s: an `if` stands inside at most 99 others.
+-- Statements in a context, in the definition of a name, inside `depth` `if`s: an `if` is inside at most 99
+-- others.
 abbrev mutual
   pub WellFormedStmt : Place → List ℕ → ℕ → Statement → Type 0
   WellFormedStmt p own depth (set line n e) = IsVariable n × WellFormedExpr e
@@ -72,11 +75,13 @@ abbrev mutual
   WellFormedArms p own depth (arm c body rest) =
       WellFormedExpr c × WellFormedBlock p own depth body × WellFormedArms p own depth rest
 
+-- the numbers of an instrument are in their range, and its statements are well formed
 pub record WellFormedInstrument (i : Instrument) : Type 0 where
   pub numbers : All (λ n. (1 ≤ n) × (n ≤ greatest_instrument)) i.numbers
   pub body : WellFormedBlock place.Instrument [] 0 i.body
 
--- the names of the inputs are different local variables, one for each letter, of its rate; one value for each result
+-- the names of the inputs are different local variables, one for each input, with its rate; there is one
+-- value for each result
 pub record WellFormedDefinition (d : Definition) : Type 0 where
   pub name : HasNoStop d.name
   pub local : All (λ n. IsVariable n × (is_global n ≡ false)) d.names
@@ -97,7 +102,7 @@ abbrev pub all_numbers : List Instrument → List ℕ
 all_numbers [] = []
 all_numbers (i ∷ is) = i.numbers ++ all_numbers is
 
--- What holds of every orchestra that is read.
+-- The properties of every orchestra that is read.
 pub record IsWellFormed (o : Orchestra) : Type 0 where
   pub outside : WellFormedBlock place.Outside [] 0 o.zero
   pub instruments : All WellFormedInstrument o.instrs
@@ -105,14 +110,15 @@ pub record IsWellFormed (o : Orchestra) : Type 0 where
   pub numbers : AreDifferent (all_numbers o.instrs)
   pub opcodes : AreDifferent (map (λ d. d.name) o.opcodes)
 
--- a part of an orchestra that stands in no other
+-- a top-level part of an orchestra
 pub data Item : Type 0 where
   header_item : HeadLine → Item
   opcode_item : Definition → Item
   stmt_item : Statement → Item
   instr_item : Instrument → Item
 
--- the lines of statements in the order of the text: that of an `if`, and then those in it
+-- the lines of statements in the order of the text: the line of an `if` comes before the lines of the
+-- statements in it
 abbrev mutual
   pub stmt_lines : Statement → List ℕ
   stmt_lines (set line n e) = line ∷ []
@@ -127,13 +133,14 @@ abbrev mutual
   arms_lines (otherwise body) = block_lines body
   arms_lines (arm c body rest) = block_lines body ++ arms_lines rest
 
--- the line of a part, and those of the statements in it
+-- the line of a part, followed by the lines of the statements in it
 abbrev pub item_lines : Item → List ℕ
 item_lines (header_item h) = h.line ∷ []
 item_lines (opcode_item d) = d.line ∷ block_lines d.body
 item_lines (stmt_item x) = stmt_lines x
 item_lines (instr_item i) = i.line ∷ block_lines i.body
 
+-- the lines of all parts
 abbrev pub lines_of : List Item → List ℕ
 lines_of [] = []
 lines_of (i ∷ rest) = item_lines i ++ lines_of rest
@@ -146,8 +153,8 @@ orchestra_of (opcode_item d ∷ rest) = with_definition d (orchestra_of rest)
 orchestra_of (stmt_item x ∷ rest) = with_stmt x (orchestra_of rest)
 orchestra_of (instr_item i ∷ rest) = with_instr i (orchestra_of rest)
 
--- An orchestra is made of parts whose lines ascend, with those of all statements in them: so lines tell the order of
--- the text across the four lists.
+-- An orchestra consists of parts whose lines increase, including the lines of all statements in them: so line
+-- numbers determine the order in the text across the four lists.
 pub record InOrder (o : Orchestra) : Type 0 where
   pub items : List Item
   pub whole : o ≡ orchestra_of items

@@ -1,4 +1,5 @@
--- What private clauses alone cite: what the parser's calls answer, and lines as they are read step by step.
+-- Definitions that only private clauses use: the results of the parser's calls, and lines as they are read
+-- step by step.
 pub mod Answers
 pub mod Reached
 pub mod Rows

@@ -3,19 +3,19 @@ ghost use Rattle.std.specs.Prelude.{◌≡◌, [], List, Ok, IfOk, IfErr};
 ghost use Rattle.cs_base.specs.declared.fault.Or.TheVariants as or;
 ghost use Rattle.cs_grammar.specs.{Headings.heading, Tree.definition, Orchestra.ReadsDefinition};
 ghost use Rattle.cs_grammar.specs.inner.Answers.{Gives, IsInside, IsLines, inside, of_inside};
-ghost use Rattle.cs_symbols.specs.Symbols.{Symbol};
+ghost use Rattle.cs_grammar.specs.Symbols.{Symbol};
 ghost use Rattle.cs_grammar.specs.Reading.{in_definition};
-ghost use Rattle.cs_symbols.specs.Symbols.{after, next};
+ghost use Rattle.cs_grammar.specs.Symbols.{after, next};
 
 use crate::heading::Heading;
 use crate::parser::Parser;
 use crate::scope::Scope;
+use crate::symbol::Expected;
 use crate::tree::{Args, Stmts, Udo};
 use cs_base::{Items, Names, Or, OrcFault};
-use cs_symbols::Expected;
 use cs_words::NameSet;
 
-/// What a definition has between the line of `opcode` and `endop`.
+/// The part of a definition between the line of `opcode` and `endop`.
 #[derive(Drop)]
 pub struct Inside {
     pub names: Names,
@@ -24,7 +24,7 @@ pub struct Inside {
 }
 
 impl<'s> Parser<'s> {
-    /// Reads what stands under the line of `opcode`.
+    /// Reads the part of a definition after the line of `opcode`, and returns the complete definition.
     pub fn under(&mut self, head: Heading<'s>, defined: &NameSet<'s>) -> Result<Udo, Or<OrcFault>>
         ensures reads { Gives definition result self.new (λ o. (ts : List Symbol)
             → heading (in_definition [] defined.now) (next ts).line (after ts) ≡ Ok (head.entry, self.old)
@@ -35,7 +35,7 @@ impl<'s> Parser<'s> {
         self.defined_as(head, lines)
     }
 
-    // The definition of a line of `opcode` and what stands under it.
+    // The definition that consists of this line of `opcode` and the lines after it.
     fn defined_as(&self, head: Heading, lines: Inside) -> Result<Udo, Or<OrcFault>>
         ensures value { IfOk result (λ u. definition u ≡ of_inside head.entry (inside lines)) }
         ensures name { IfOk result (λ u. u.name ≡ head.entry.name) }
@@ -60,7 +60,7 @@ impl<'s> Parser<'s> {
         })
     }
 
-    // Reads the lines of a definition, and the line of `endop`.
+    // Reads the lines of a definition, including the line of `endop`.
     fn lines(
         &mut self,
         scope: &Scope,
@@ -74,7 +74,7 @@ impl<'s> Parser<'s> {
         self.ended(&Scope::outside(defined), lines)
     }
 
-    // Reads the names of the inputs, the statements, the results.
+    // Reads the names of the inputs, the statements and the results.
     fn inside(&mut self, scope: &Scope, head: &Heading) -> Result<Inside, Or<OrcFault>>
         ensures { Gives inside result self.new (IsInside scope.now head.now self.old) }
     {

@@ -1,26 +1,26 @@
-// Expressions: levels of operators, and the parts between them.
+// Expressions: levels of operators, and the operands between them.
 ghost use Rattle.std.specs.Prelude.{◌≡◌, ◌≤◌, List, Ok, Some, None, IfSome, length, true};
 ghost use Rattle.cs_base.specs.declared.fault.Or.TheVariants as or;
 ghost use Rattle.cs_grammar.specs.declared.expr.Level.TheVariants as at;
 ghost use Rattle.cs_grammar.specs.declared.expr.PartForm.TheVariants as part;
 ghost use Rattle.cs_grammar.specs.Tree.{expression};
-ghost use Rattle.cs_symbols.specs.Symbols.{Symbol};
-ghost use Rattle.cs_symbols.specs.declared.symbol.Expected.TheVariants as expected;
-ghost use Rattle.cs_symbols.specs.declared.symbol.Kind.TheVariants as kind;
+ghost use Rattle.cs_grammar.specs.Symbols.{Symbol};
+ghost use Rattle.cs_grammar.specs.declared.symbol.Expected.TheVariants as expected;
+ghost use Rattle.cs_grammar.specs.declared.symbol.Kind.TheVariants as kind;
 ghost use Rattle.cs_grammar.specs.{Reading.next_is, Grammar.ReadsExpr, Grammar.ReadsTail};
 ghost use Rattle.cs_grammar.specs.Parts.{one_symbol, atom, tighter, rank, is_at, repeats, operator_of, part_form};
 ghost use Rattle.cs_grammar.specs.Parts.{part_form_of, no_part};
 ghost use Rattle.cs_grammar.specs.inner.Answers.{Gives, IsClosed, in_box};
-ghost use Rattle.cs_symbols.specs.Symbols.{next, after};
+ghost use Rattle.cs_grammar.specs.Symbols.{next, after};
 
 use crate::parser::Parser;
 use crate::scope::Scope;
+use crate::symbol::{Expected, Kind};
 use crate::tree::Expr;
 use cs_base::{Or, OrcFault, OrcKind};
-use cs_symbols::{Expected, Kind};
 use cs_words::{BinOp, Func, Sign, Word};
 
-/// The levels of an expression, the loosest first.
+/// The precedence levels of an expression, the lowest first.
 #[derive(Clone, Copy, PartialEq, Eq)]
 pub enum Level {
     Expr,
@@ -32,7 +32,7 @@ pub enum Level {
 }
 
 impl Level {
-    // The next looser level, up to a last one.
+    // The next lower precedence level, up to `last`.
     fn looser(self, last: Level) -> Option<Level>
         requires { rank self ≤ rank last }
         ensures next { IfSome result (λ l. (tighter l ≡ Some self) × (rank l ≤ rank last)) }
@@ -68,7 +68,8 @@ impl Level {
         }
     }
 
-    /// A comparison stands alone; other operators of a level may follow one another.
+    // Whether several operators of the level may follow one another: a comparison may not be followed by
+    // another one.
     fn repeats(self) -> bool
         ensures { result ≡ repeats self }
     {
@@ -85,7 +86,7 @@ impl Level {
     }
 }
 
-/// How a part of an expression begins.
+/// How an operand begins.
 #[derive(Clone, Copy)]
 pub enum PartForm {
     Minus,
@@ -114,6 +115,7 @@ impl<'s> Parser<'s> {
         PartForm::of(self.kind(), self.second_is(Expected::Open))
     }
 
+    /// Returns the fault of a symbol that can't begin an operand.
     pub fn no_part(&self, scope: &Scope) -> Or<OrcFault>
         ensures { result ≡ or.Fault (no_part scope.now self.now) }
     {
@@ -136,7 +138,7 @@ impl<'s> Parser<'s> {
         Ok(part)
     }
 
-    // What the next symbol is as an expression.
+    // The next symbol as an expression of one symbol.
     fn single(&self, scope: &Scope) -> Result<Expr, Or<OrcFault>>
         ensures { Gives expression result (after self.now) (λ o. o ≡ one_symbol scope.now self.now) }
     {
@@ -159,8 +161,9 @@ impl<'s> Parser<'s> {
         }
     }
 
-    /// Reads an expression of a level: a part, and then the operators of each level up to it, the tightest first. So a
-    /// bracket takes the stack of one call of `expr`, and not of one for each level.
+    /// Reads an expression of a level: an operand, and then the operators of each level up to `level`, the
+    /// tightest first. A bracket therefore needs the stack of only one call of `expr`, instead of one for
+    /// each level.
     #[cycle(expr)]
     pub fn expr(&mut self, scope: &Scope, level: Level) -> Result<Expr, Or<OrcFault>>
         ensures reads { Gives expression result self.new (ReadsExpr scope.now level (Ok self.old)) }
@@ -175,7 +178,8 @@ impl<'s> Parser<'s> {
         Ok(value)
     }
 
-    // The operators of a level behind its first operand, with their right sides; they group to the left.
+    // Reads the operators of a level after their first operand, with their right sides; they group to the
+    // left.
     #[cycle(expr)]
     fn operators(
         &mut self,
@@ -201,7 +205,7 @@ impl<'s> Parser<'s> {
         Ok(left)
     }
 
-    // Reads an expression of a level into a box: dropped by one call, where it is alive beside a way out.
+    // Reads an expression of a level into a box, which an early return drops with one call.
     #[cycle(expr)]
     fn boxed(&mut self, scope: &Scope, level: Level) -> Result<Box<Expr>, Or<OrcFault>>
         ensures reads { Gives in_box result self.new (ReadsExpr scope.now level (Ok self.old)) }
@@ -257,7 +261,7 @@ impl<'s> Parser<'s> {
         self.followed(scope, end, part)
     }
 
-    // An expression in brackets, or a choice.
+    // Reads an expression in brackets, or a choice with `?` and `:`.
     #[cycle(expr)]
     fn bracket(&mut self, scope: &Scope) -> Result<Expr, Or<OrcFault>>
         requires { part_form self.old ≡ part.Bracket }
@@ -272,7 +276,7 @@ impl<'s> Parser<'s> {
         self.followed(scope, Expected::Close, first)
     }
 
-    // What follows the condition of a choice.
+    // Reads the rest of a choice, after its condition.
     #[cycle(expr)]
     fn choice(&mut self, scope: &Scope, cond: Expr) -> Result<Expr, Or<OrcFault>>
         requires { next_is expected.Question self.old ≡ true }

@@ -2,19 +2,19 @@
 ghost use Rattle.std.specs.Prelude.{◌≡◌, Ok, IfOk, map, true, false};
 ghost use Rattle.std.specs.List.{list_all};
 ghost use Rattle.cs_words.specs.{Names.is_rate_letter, Names.letter_rate, NameSets.has};
-ghost use Rattle.cs_symbols.specs.{Kinds.is_word, Kinds.may_be_opcode, Symbols.next, Symbols.after};
+ghost use Rattle.cs_grammar.specs.{Kinds.is_word, Kinds.may_be_opcode, Symbols.next, Symbols.after};
 ghost use Rattle.cs_grammar.specs.inner.Answers.{Gives, signature};
 ghost use Rattle.cs_grammar.specs.Headings.{heading, new_name, types, types_at};
 
 use crate::parser::Parser;
 use crate::scope::Scope;
+use crate::symbol::{Expected, Kind};
 use cs_base::{Items, Or, OrcFault, OrcKind, Rate, Rates};
-use cs_symbols::{Expected, Kind};
 use cs_words::{Word, is_rate_letter, letter_rate};
 use std::alloc::{AllocError, Global};
 use std::marker::Model;
 
-/// The line of `opcode`: name, results, inputs.
+/// The line of `opcode`: the name, the rates of the results, and the rates of the inputs.
 #[derive(Drop)]
 pub struct Heading<'s> {
     pub line: u32,
@@ -32,24 +32,28 @@ impl<'s> Model for Heading<'s> {
 }
 
 impl<'s> Heading<'s> {
+    /// Returns the line number.
     pub fn line(&self) -> u32
         ensures { result ≡ self.now.line }
     {
         self.line
     }
 
+    /// Returns the name of the opcode.
     pub fn name(&self) -> &'s [u8]
         ensures { result.now ≡ self.now.name }
     {
         self.name
     }
 
+    /// Returns the rates of the results.
     pub fn outs(&self) -> &[Rate]
         ensures { result.now ≡ self.now.outs }
     {
         self.outs.as_slice()
     }
 
+    /// Returns the rates of the inputs.
     pub fn ins(&self) -> &[Rate]
         ensures { result.now ≡ self.now.ins }
     {
@@ -97,7 +101,7 @@ impl<'s> Parser<'s> {
         Ok(name)
     }
 
-    // The rates of results or inputs: a word of the letters a, k and i, or 0 for none.
+    // Reads the rates of results or inputs: a word of the letters a, k and i, or 0 for none.
     fn types(&mut self, scope: &Scope) -> Result<Rates, Or<OrcFault>>
         ensures { Gives (λ rates. rates) result self.new (λ o. o ≡ types scope.now (Ok self.old)) }
     {
@@ -142,7 +146,7 @@ impl<'s> Parser<'s> {
         })
     }
 
-    // Reads the results and the inputs, with the end of the line.
+    // Reads the results and the inputs, and the end of the line.
     fn signature(&mut self, scope: &Scope) -> Result<(Rates, Rates), Or<OrcFault>>
         ensures { Gives (λ p. p) result self.new (λ o. o ≡ signature scope.now self.old) }
     {

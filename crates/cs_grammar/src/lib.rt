@@ -1,15 +1,16 @@
 //! Reads the tokens of an orchestra into its tree, or refuses it at the first broken rule of the grammar.
 //!
-//! Its one contract: the tree that `parse` gives is that of the tokens, and where it gives none, the fault is their
-//! first. Both are said by one relation, in specs/Grammar and specs/Orchestra, with a case for each rule of the
-//! grammar, between what is left of a text and its reading; `one_reading` says that there is exactly one. The tree is
-//! spoken of by a mirror without memory (specs/Tree). How the parser goes along the tokens may be changed without
-//! anyone above noticing.
+//! Its one contract: the tree that `parse` returns is the tree of the tokens, and a fault that it returns is
+//! their first fault. Both are defined by one relation, in specs/Grammar and specs/Orchestra, between the
+//! remaining symbols of a text and their reading, with one case for each rule of the grammar; `one_reading`
+//! states that there is exactly one reading. Contracts see the tree as a mirror without memory (specs/Tree).
+//! How the parser processes the tokens may change without anyone above noticing.
 //!
-//! To be read in this order: `tree` (what comes out), `orc` (the whole, and instruments), `definition`, `heading`
-//! (its line of `opcode`), `xin` (its first line), `xout` (its last), `stmt`, `lists`, `expr` (the rules), `laws`
-//! (every text has one reading, and what holds of each tree), `parser` (the place that is reached), `scope` (where a
-//! line stands).
+//! In reading order: `tree` (the result), `orc` (the orchestra, and instruments), `definition`, `heading`
+//! (the line of `opcode`), `xin` (a definition's first line), `xout` (its last line), `stmt`, `lists`, `expr`
+//! (the rules), `laws` (every text has one reading; properties of each tree), `parser` (the current
+//! position), `symbol` (a token as the grammar sees it: the parser reads symbols and never looks at a token),
+//! `scope` (the context of a line).
 #![tactic(auto)]
 
 mod definition;
@@ -21,6 +22,7 @@ mod orc;
 mod parser;
 mod scope;
 mod stmt;
+mod symbol;
 mod tree;
 mod xin;
 mod xout;

@@ -1,18 +1,18 @@
-// Lists in a line: the variables that take results, what is called, the arguments.
+// Lists on a line: the variables that receive results, the called opcode, and the arguments.
 ghost use Rattle.std.specs.Prelude.{◌≡◌, ◌≤◌, Ok, length, map};
 ghost use Rattle.cs_grammar.specs.{Tree.argument, Parts.is_variable, Parts.is_opcode, inner.Answers.Gives};
 ghost use Rattle.cs_grammar.specs.{inner.Rows.targets, inner.Rows.quoted};
 ghost use Rattle.cs_grammar.specs.Lines.{no_target, target, operation, by_opcode, called, is_other_text};
 ghost use Rattle.cs_grammar.specs.Grammar.{ReadsArg, ReadsList, ReadsArgs};
-ghost use Rattle.cs_symbols.specs.Symbols.{next, after};
+ghost use Rattle.cs_grammar.specs.Symbols.{next, after};
 ghost use Rattle.cs_grammar.specs.declared.lists.Role.TheVariants as role;
 
 use crate::expr::Level;
 use crate::parser::Parser;
 use crate::scope::{Place, Scope};
+use crate::symbol::{Expected, Kind};
 use crate::tree::{Arg, Args, Callee};
 use cs_base::{Name, Names, Or, OrcFault, OrcKind};
-use cs_symbols::{Expected, Kind};
 use cs_words::{Opcode, Word};
 
 /// The role of a value in a list: an argument of a call, or a result of a definition.
@@ -22,7 +22,7 @@ pub enum Role {
     Result,
 }
 
-// The kind of fault of a symbol that can take no value.
+// The kind of fault of a symbol that can't be assigned to.
 fn no_target(kind: Kind) -> OrcKind
     ensures { result ≡ no_target kind }
 {
@@ -34,21 +34,21 @@ fn no_target(kind: Kind) -> OrcKind
 }
 
 impl<'s> Parser<'s> {
-    // Whether the next symbol is a variable: a name that no definition has taken for its opcode.
+    /// Whether the next symbol is a variable: a name that isn't the name of a user-defined opcode.
     pub fn at_variable(&self, scope: &Scope) -> bool
         ensures { result ≡ is_variable scope.now (next self.now) }
     {
         matches!(self.kind(), Kind::Word(Word::Name)) && !scope.is_defined(self.text())
     }
 
-    // Whether the next symbol is an opcode.
+    /// Whether the next symbol is an opcode.
     pub fn at_opcode(&self, scope: &Scope) -> bool
         ensures { result ≡ is_opcode scope.now (next self.now).text (next self.now).kind }
     {
         scope.is_opcode(self.text(), self.kind())
     }
 
-    // Takes the next symbol's bytes as a name.
+    // Reads the next symbol's bytes as a name.
     fn take_name(&mut self) -> Result<Name, Or<OrcFault>>
         ensures reads { Gives (λ n. n) result self.new (λ o. o ≡ Ok ((next self.old).text, after self.old)) }
         ensures goes { length self.new ≤ length self.old }
@@ -58,7 +58,7 @@ impl<'s> Parser<'s> {
         Ok(name)
     }
 
-    /// Reads a variable that takes a value.
+    /// Reads a variable that is assigned to.
     pub fn target(&mut self, scope: &Scope) -> Result<Name, Or<OrcFault>>
         ensures reads { Gives (λ n. n) result self.new (λ o. o ≡ target scope.now self.old) }
         ensures goes { length self.new ≤ length self.old }
@@ -70,7 +70,7 @@ impl<'s> Parser<'s> {
         }
     }
 
-    /// Reads the variables that take the results of a call.
+    /// Reads the variables that receive the results of a call.
     pub fn targets(&mut self, scope: &Scope) -> Result<Names, Or<OrcFault>>
         ensures reads { Gives (λ ns. ns) result self.new (λ o. o ≡ targets scope.now self.old) }
         ensures goes { length self.new ≤ length self.old }
@@ -85,14 +85,14 @@ impl<'s> Parser<'s> {
         }
     }
 
-    // Whether a text other than `"i"` comes after the next symbol.
+    // Whether the next symbol is a text other than `"i"`.
     fn at_other_text(&self) -> bool
         ensures { result ≡ is_other_text (next self.now) }
     {
         self.next_is(Expected::Text) && self.text() != b"i".as_slice()
     }
 
-    /// Reads what is called.
+    /// Reads the called opcode.
     pub fn operation(&mut self, scope: &Scope) -> Result<Callee, Or<OrcFault>>
         ensures reads { Gives (λ c. c) result self.new (λ o. o ≡ operation scope.now (Ok self.old)) }
         ensures goes { length self.new ≤ length self.old }
@@ -107,7 +107,7 @@ impl<'s> Parser<'s> {
         }
     }
 
-    // Reads an opcode of the catalogue; `zakinit` stands outside instruments and definitions alone.
+    // Reads an opcode of the catalogue; `zakinit` is allowed only outside instruments and definitions.
     fn opcode(&mut self, scope: &Scope, opcode: Opcode) -> Result<Callee, Or<OrcFault>>
         ensures reads { Gives (λ c. c) result self.new (λ o. o ≡ by_opcode scope.now self.old opcode) }
         ensures goes { length self.new ≤ length self.old }
@@ -122,7 +122,7 @@ impl<'s> Parser<'s> {
         Ok(Callee::Opcode(opcode))
     }
 
-    // Reads any other name.
+    // Reads a called name that isn't in the catalogue.
     fn called(&mut self, scope: &Scope) -> Result<Callee, Or<OrcFault>>
         ensures reads { Gives (λ c. c) result self.new (λ o. o ≡ called scope.now self.old) }
         ensures goes { length self.new ≤ length self.old }
@@ -143,7 +143,7 @@ impl<'s> Parser<'s> {
         Ok(Arg::Value(self.expr(scope, Level::Expr)?))
     }
 
-    // A text, which is no result of a definition.
+    // Reads a text as an argument; a text can't be a result of a definition.
     fn quoted(&mut self, role: Role) -> Result<Arg, Or<OrcFault>>
         ensures reads { Gives argument result self.new (λ o. o ≡ quoted role self.old) }
         ensures goes { length self.new ≤ length self.old }
@@ -154,7 +154,7 @@ impl<'s> Parser<'s> {
         }
     }
 
-    /// Reads arguments or results, one at least.
+    /// Reads arguments or results, at least one.
     pub fn list(&mut self, scope: &Scope, role: Role) -> Result<Args, Or<OrcFault>>
         ensures reads { Gives (λ v. map argument v.items) result self.new (ReadsList scope.now role (Ok self.old)) }
         ensures goes { length self.new ≤ length self.old }
@@ -169,7 +169,7 @@ impl<'s> Parser<'s> {
         }
     }
 
-    /// Reads the arguments up to the end of the line, or none.
+    /// Reads the arguments up to the end of the line; there may be none.
     pub fn arguments(&mut self, scope: &Scope) -> Result<Args, Or<OrcFault>>
         ensures reads { Gives (λ v. map argument v.items) result self.new (ReadsArgs scope.now (Ok self.old)) }
         ensures goes { length self.new ≤ length self.old }

@@ -1,4 +1,4 @@
-// Instruments, and the whole orchestra.
+// Instruments, and entire orchestras.
 ghost use Rattle.std.specs.Prelude.{◌≡◌, ◌≢◌, ◌↔◌, ◌≤◌, ◌<◌, ◌++◌, ◌∷◌, [], List, IsTrue, Ok, IfOk, length};
 ghost use Rattle.cs_base.specs.declared.fault.Or.TheVariants as or;
 ghost use Rattle.cs_base.specs.declared.fault.OrcFault.{OrcFault};
@@ -9,19 +9,19 @@ ghost use Rattle.cs_grammar.specs.Tree.{block, instrument, orchestra};
 ghost use Rattle.cs_grammar.specs.Lines.{header_line, instrument_number, one_number};
 ghost use Rattle.cs_grammar.specs.inner.Answers.{Gives, IsDraft, IsInstrBody, ReadsOn};
 ghost use Rattle.cs_grammar.specs.Orchestra.{item_form, item_form_of, nothing, ReadsInstr, ReadsOrc, Tree, ParseFault};
-ghost use Rattle.cs_symbols.specs.Symbols.{Symbol, after};
+ghost use Rattle.cs_grammar.specs.Symbols.{Symbol, after};
 
 use crate::parser::Parser;
 use crate::scope::Scope;
+use crate::symbol::{Expected, Kind};
 use crate::tree::{HeadLine, Instr, Orc, Stmts};
 use cs_base::{Excerpt, GREATEST_INSTRUMENT, Num, Numbers, ONE, Or, OrcFault, OrcKind};
 use cs_lex::{Tokens, tokens_stand_in_the_text};
-use cs_symbols::{Expected, Kind};
 use cs_words::{HeadName, Keyword, NameSet, Word};
 use indexmap::IndexSet;
 use std::alloc::Global;
 
-/// What stands next outside instruments and definitions.
+/// The next item outside instruments and definitions.
 #[derive(Clone, Copy)]
 pub enum ItemForm {
     Header(HeadName),
@@ -45,7 +45,7 @@ impl ItemForm {
     }
 }
 
-/// The whole number from 1 to `GREATEST_INSTRUMENT` that a value is.
+// The instrument number that a value denotes: an integer from 1 to `GREATEST_INSTRUMENT`.
 fn instrument_number(value: Num) -> Option<u32>
     ensures { result ≡ instrument_number value }
 {
@@ -57,8 +57,8 @@ fn instrument_number(value: Num) -> Option<u32>
     }
 }
 
-/// What is read of an orchestra so far: its tree, the names of the opcodes that it defines, the numbers of its
-/// instruments.
+/// The part of an orchestra that has been read so far: its tree, the names of the opcodes that it defines,
+/// and the numbers of its instruments.
 #[derive(Drop)]
 pub struct Draft<'s> {
     pub orc: Orc,
@@ -92,7 +92,7 @@ impl<'s> Parser<'s> {
         ItemForm::of(self.kind(), self.second_is(Expected::Equals))
     }
 
-    // Reads a header line: its name, `=`, a number.
+    // Reads a header line: its name, `=`, and a number.
     fn header_line(&mut self, scope: &Scope, name: HeadName) -> Result<HeadLine, Or<OrcFault>>
         ensures { Gives (λ h. h) result self.new (λ o. o ≡ header_line scope.now name self.old) }
     {
@@ -107,7 +107,7 @@ impl<'s> Parser<'s> {
         Ok(HeadLine { line, name, value })
     }
 
-    // Reads an instrument's number, which no instrument before has.
+    // Reads an instrument number, which no earlier instrument may have.
     fn number(&mut self, scope: &Scope, given: &mut IndexSet<u32>) -> Result<u32, Or<OrcFault>>
         ensures reads { Gives (λ n. n) result self.new (λ o. o ≡ one_number scope.now given.old.keys self.old) }
         ensures given { IfOk result (λ n. given.new.keys ≡ given.old.keys ++ n ∷ []) }
@@ -185,7 +185,7 @@ impl<'s> Parser<'s> {
         self.ended(&Scope::outside(defined), body)
     }
 
-    // Reads the header line that is next.
+    // Reads a header line and adds it to the draft.
     fn add_header(&mut self, name: HeadName, draft: &mut Draft<'s>) -> Result<(), Or<OrcFault>>
         requires { item_form self.old ≡ item.Header name }
         ensures reads { (first : List Symbol) → IsDraft first draft.old self.old
@@ -197,7 +197,7 @@ impl<'s> Parser<'s> {
         Ok(())
     }
 
-    // Reads the instrument that is next.
+    // Reads an instrument and adds it to the draft.
     fn add_instr(&mut self, draft: &mut Draft<'s>) -> Result<(), Or<OrcFault>>
         requires { item_form self.old ≡ item.Instr }
         ensures reads { (first : List Symbol) → IsDraft first draft.old self.old
@@ -209,7 +209,7 @@ impl<'s> Parser<'s> {
         Ok(())
     }
 
-    // Reads the definition that is next.
+    // Reads a definition and adds it to the draft.
     fn add_definition(&mut self, draft: &mut Draft<'s>) -> Result<(), Or<OrcFault>>
         requires { item_form self.old ≡ item.Opcode }
         ensures reads { (first : List Symbol) → IsDraft first draft.old self.old
@@ -224,7 +224,7 @@ impl<'s> Parser<'s> {
         Ok(())
     }
 
-    // Reads the statement that is next.
+    // Reads a statement and adds it to the draft.
     fn add_stmt(&mut self, draft: &mut Draft<'s>) -> Result<(), Or<OrcFault>>
         requires { item_form self.old ≡ item.Statement }
         ensures reads { (first : List Symbol) → IsDraft first draft.old self.old
@@ -236,7 +236,7 @@ impl<'s> Parser<'s> {
         Ok(())
     }
 
-    // Reads what is next.
+    // Reads the next item and adds it to the draft.
     fn add_item(&mut self, draft: &mut Draft<'s>) -> Result<(), Or<OrcFault>>
         requires { item_form self.old ≢ item.End }
         ensures reads { (first : List Symbol) → IsDraft first draft.old self.old
@@ -252,7 +252,7 @@ impl<'s> Parser<'s> {
         }
     }
 
-    // Reads all that is left.
+    // Reads all remaining items and adds them to the draft.
     fn add_items(&mut self, draft: &mut Draft<'s>) -> Result<(), Or<OrcFault>>
         ensures reads { (first : List Symbol) → IsDraft first draft.old self.old
             → ReadsOn result first (IsDraft first draft.new self.new) }
@@ -281,14 +281,15 @@ impl<'s> Parser<'s> {
     }
 }
 
-/// Reads the tokens of a text into the tree of its orchestra, or finds its first fault: kinds 5 to 11 and 20 to 23.
-/// Lines are those of the tokens.
+/// Reads the tokens of a text into the tree of its orchestra, or returns its first fault, of kinds 5 to 11
+/// and 20 to 23. Line numbers are taken from the tokens.
 #[tactic(auto, using(crate::proofs::Steps::spanned))]
 pub fn parse(alloc: Global, text: &Excerpt, tokens: &Tokens) -> Result<Orc, Or<OrcFault>>
     requires { Lexed text.now tokens.now }
     ensures tree { IfOk result (λ orc. Tree text.now.bytes tokens.now (orchestra orc)) }
     ensures fault { (f : OrcFault) → result ≡ Err (or.Fault f) → ParseFault text.now.bytes tokens.now f.line f.kind }
 {
+    // For the prover: the spans of all tokens are within the text.
     tokens_stand_in_the_text();
     let mut parser = Parser::new(alloc, text.bytes(), tokens.as_slice());
     parser.orc()

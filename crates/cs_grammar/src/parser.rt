@@ -1,26 +1,27 @@
-// The symbols of an orchestra, and the place that is reached.
+// The symbols of an orchestra, and the current position.
 ghost use Rattle.std.specs.Prelude.{◌≡◌, ◌≤◌, ◌<◌, ◌^◌, IfOk, length};
 ghost use Rattle.cs_base.specs.declared.fault.Or.TheVariants as or;
-ghost use Rattle.cs_symbols.specs.Symbols.{symbols, Spanned, next, after};
+ghost use Rattle.cs_grammar.specs.Symbols.{symbols, Spanned, next, after};
 ghost use Rattle.cs_grammar.specs.Reading.{next_is, fault, misfit};
 ghost use Rattle.cs_grammar.specs.inner.Answers.{Passes, past, line_past};
 
 use crate::scope::Scope;
+use crate::symbol::{Expected, Kind, bytes_of, counted, first_kind, second_kind, unquoted};
 use cs_base::{Items, Name, Or, OrcFault, OrcKind};
 use cs_lex::Token;
-use cs_symbols::{Expected, Kind, bytes_of, counted, first_kind, second_kind, unquoted};
 use std::alloc::{AllocError, Global};
 use std::marker::Model;
 
-/// A reader of symbols, which finds what a token is as it comes to it. Contracts see what is left.
+/// A reader of symbols, which determines the kind of each token when it reaches the token. Contracts see the
+/// remaining symbols.
 #[derive(Drop)]
 pub struct Parser<'s> {
     alloc: Global,
     source: &'s [u8],
-    // The tokens that are left, and how many stand before the first of them in its line.
+    // The remaining tokens, and the number of tokens before the first of them on its line.
     tokens: &'s [Token],
     place: usize,
-    // What the next two symbols are.
+    // The kinds of the next two symbols.
     first: Kind,
     second: Kind,
 }
@@ -28,7 +29,7 @@ pub struct Parser<'s> {
 impl<'s> Model for Parser<'s> {
     ghost use Rattle.std.specs.Prelude.{List};
     ghost use Rattle.cs_grammar.specs.inner.Reached.{IsReached};
-    ghost use Rattle.cs_symbols.specs.Symbols.{Symbol, symbols_from};
+    ghost use Rattle.cs_grammar.specs.Symbols.{Symbol, symbols_from};
 
     ghost Value = { List Symbol };
 
@@ -38,7 +39,7 @@ impl<'s> Model for Parser<'s> {
 }
 
 impl<'s> Parser<'s> {
-    /// A reader of the tokens of a source.
+    /// Returns a reader of the tokens of a source.
     pub fn new(alloc: Global, source: &'s [u8], tokens: &'s [Token]) -> Parser<'s>
         requires { Spanned (length source.now) tokens.now }
         ensures { result ≡ symbols source.now tokens.now }
@@ -53,7 +54,7 @@ impl<'s> Parser<'s> {
         }
     }
 
-    /// The same reader once more, for a look ahead.
+    /// Returns a copy of the reader, to look ahead.
     pub fn again(&self) -> Parser<'s>
         ensures same { result ≡ self.now }
         ensures short { length self.now < 2 ^ 63 }
@@ -68,32 +69,34 @@ impl<'s> Parser<'s> {
         }
     }
 
+    /// Returns the allocator.
     pub fn alloc(&self) -> Global {
         self.alloc
     }
 
-    /// The kind of the next symbol; after the last it is End.
+    /// Returns the kind of the next symbol; End if none remains.
     pub fn kind(&self) -> Kind
         ensures { result ≡ (next self.now).kind }
     {
         self.first
     }
 
-    /// The kind of the symbol after the next.
+    /// Returns the kind of the symbol after the next one.
     pub fn second(&self) -> Kind
         ensures { result ≡ (next (after self.now)).kind }
     {
         self.second
     }
 
-    /// Whether the symbol after the next is what is asked for.
+    /// Whether the symbol after the next one is the expected one.
     pub fn second_is(&self, expected: Expected) -> bool
         ensures { result ≡ next_is expected (after self.now) }
     {
         expected.is(self.second())
     }
 
-    /// The bytes of the next symbol, of a text without its quotation marks; after the last there are none.
+    /// Returns the bytes of the next symbol, without the quotation marks of a quoted text; empty if none
+    /// remains.
     pub fn text(&self) -> &'s [u8]
         ensures { result.now ≡ (next self.now).text }
     {
@@ -103,7 +106,7 @@ impl<'s> Parser<'s> {
         }
     }
 
-    /// The line of the next symbol; after the last it is 0.
+    /// Returns the line of the next symbol; 0 if none remains.
     pub fn line(&self) -> u32
         ensures { result ≡ (next self.now).line }
     {
@@ -113,7 +116,7 @@ impl<'s> Parser<'s> {
         }
     }
 
-    /// Goes past the next symbol, if there is one.
+    /// Advances past the next symbol, if there is one.
     pub fn skip(&mut self)
         ensures { self.new ≡ after self.old }
     {
@@ -126,14 +129,14 @@ impl<'s> Parser<'s> {
         }
     }
 
-    /// The bytes of the next symbol as a name.
+    /// Returns the bytes of the next symbol as a name.
     pub fn name(&self) -> Result<Name, AllocError>
         ensures { IfOk result (λ n. n ≡ (next self.now).text) }
     {
         Items::of_slice(self.alloc, self.text())
     }
 
-    /// A fault at the next symbol.
+    /// Returns a fault at the next symbol.
     pub fn fault(&self, kind: OrcKind) -> Or<OrcFault>
         ensures { result ≡ or.Fault (fault self.now kind) }
     {
@@ -143,20 +146,22 @@ impl<'s> Parser<'s> {
         })
     }
 
-    /// The fault of the next symbol where it fits no rule, and where another would have the usual kind.
+    /// Returns the fault of the next symbol, which fits no rule: a special kind of fault for some symbols,
+    /// and otherwise the kind `usual`.
     pub fn misfit(&self, scope: &Scope, usual: OrcKind) -> Or<OrcFault>
         ensures { result ≡ or.Fault (misfit scope.now usual self.now) }
     {
         self.fault(scope.misfit_kind(usual, self.kind()))
     }
 
+    /// Whether the next symbol is the expected one.
     pub fn next_is(&self, expected: Expected) -> bool
         ensures { result ≡ next_is expected self.now }
     {
         expected.is(self.kind())
     }
 
-    /// Takes a symbol that must come next.
+    /// Reads a symbol that must come next.
     pub fn pass(&mut self, scope: &Scope, expected: Expected) -> Result<(), Or<OrcFault>>
         ensures passes { Passes result self.new (past scope.now expected self.old) }
         ensures goes { length self.new ≤ length self.old }
@@ -169,7 +174,7 @@ impl<'s> Parser<'s> {
         }
     }
 
-    /// Takes the end of a line: consumes a NewLine, and accepts End without consuming it.
+    /// Reads the end of a line: consumes a NewLine, and accepts End without consuming it.
     pub fn end_line(&mut self, scope: &Scope) -> Result<(), Or<OrcFault>>
         ensures passes { Passes result self.new (line_past scope.now (next self.old).kind self.old) }
         ensures goes { length self.new ≤ length self.old }
@@ -184,7 +189,7 @@ impl<'s> Parser<'s> {
         }
     }
 
-    /// A value that was read, with the symbol that must follow it.
+    /// Reads the symbol that must follow a value, and returns the value.
     pub fn followed<T: Drop>(
         &mut self,
         scope: &Scope,
@@ -199,7 +204,7 @@ impl<'s> Parser<'s> {
         Ok(value)
     }
 
-    /// A value that was read, with the end of its line.
+    /// Reads the end of the line after a value, and returns the value.
     pub fn ended<T: Drop>(&mut self, scope: &Scope, value: T) -> Result<T, Or<OrcFault>>
         ensures value { IfOk result (λ kept. kept ≡ value) }
         ensures passes { Passes result self.new (line_past scope.now (next self.old).kind self.old) }

@@ -1,4 +1,4 @@
-// Where a line stands, and which opcodes are defined before it.
+// The context of a line, and the opcodes that are defined before it.
 ghost use Rattle.std.specs.Prelude.{◌≡◌, ◌<◌};
 ghost use Rattle.cs_base.specs.Limits.{most_nested_ifs};
 ghost use Rattle.cs_words.specs.NameSets.{has};
@@ -6,12 +6,12 @@ ghost use Rattle.cs_grammar.specs.Reading.{outside, in_instrument, in_definition
 ghost use Rattle.cs_grammar.specs.Reading.{keyword_kind, early, open_kind};
 ghost use Rattle.cs_grammar.specs.{Parts.is_opcode, Lines.is_own};
 
+use crate::symbol::Kind;
 use cs_base::OrcKind;
-use cs_symbols::Kind;
 use cs_words::{Keyword, NameSet, Sign, Word};
 use std::marker::Model;
 
-/// Where a line stands.
+/// The part of an orchestra that contains a line.
 #[derive(Clone, Copy)]
 pub enum Place {
     Outside,
@@ -19,8 +19,8 @@ pub enum Place {
     Definition,
 }
 
-/// Where a line stands: in an instrument, a definition or neither; in how many `if`s; in the definition of which name;
-/// and the opcodes that are defined before.
+/// The context of a line: an instrument, a definition or neither; the number of `if`s around it; the name of
+/// the definition around it; and the opcodes that are defined before it.
 #[derive(Drop)]
 pub struct Scope<'a, 's> {
     place: Place,
@@ -38,25 +38,28 @@ impl<'a, 's> Model for Scope<'a, 's> {
 }
 
 impl<'a, 's> Scope<'a, 's> {
+    /// Returns the scope outside instruments and definitions.
     pub fn outside(defined: &'a NameSet<'s>) -> Scope<'a, 's>
         ensures { result ≡ outside defined.now }
     {
         Scope::new(Place::Outside, b"".as_slice(), defined)
     }
 
+    /// Returns the scope in an instrument.
     pub fn in_instrument(defined: &'a NameSet<'s>) -> Scope<'a, 's>
         ensures { result ≡ in_instrument defined.now }
     {
         Scope::new(Place::Instrument, b"".as_slice(), defined)
     }
 
+    /// Returns the scope in the definition of the opcode `own`.
     pub fn in_definition(own: &'a [u8], defined: &'a NameSet<'s>) -> Scope<'a, 's>
         ensures { result ≡ in_definition own.now defined.now }
     {
         Scope::new(Place::Definition, own, defined)
     }
 
-    // Inside no `if`.
+    // A scope inside no `if`.
     fn new(place: Place, own: &'a [u8], defined: &'a NameSet<'s>) -> Scope<'a, 's>
         ensures { result ≡ record { place = place; depth = 0; own = own.now; defined = defined.now } }
     {
@@ -68,7 +71,7 @@ impl<'a, 's> Scope<'a, 's> {
         }
     }
 
-    /// Inside one more `if`.
+    /// Returns the scope inside one more `if`.
     pub fn deeper(&self) -> Scope<'a, 's>
         requires { self.now.depth < most_nested_ifs }
         ensures { result ≡ deeper self.now }
@@ -81,33 +84,35 @@ impl<'a, 's> Scope<'a, 's> {
         }
     }
 
+    /// Returns the part of the orchestra that contains the line.
     pub fn place(&self) -> Place
         ensures { result ≡ self.now.place }
     {
         self.place
     }
 
+    /// Returns the number of `if`s around the line.
     pub fn depth(&self) -> u32
         ensures { result ≡ self.now.depth }
     {
         self.depth
     }
 
-    /// Whether a name is that of the definition around.
+    /// Whether `name` is the name of the definition around the line.
     pub fn is_own(&self, name: &[u8]) -> bool
         ensures { result ≡ is_own self.now name.now self.now.place }
     {
         matches!(self.place, Place::Definition) && self.own == name
     }
 
-    /// Whether a name is that of a defined opcode.
+    /// Whether `name` is the name of a user-defined opcode.
     pub fn is_defined(&self, name: &[u8]) -> bool
         ensures { result ≡ has self.now.defined name.now }
     {
         self.defined.has(name)
     }
 
-    /// Whether a symbol of this kind and these bytes is an opcode: of the catalogue, or defined.
+    /// Whether a symbol of this kind and with these bytes is an opcode, of the catalogue or user-defined.
     pub fn is_opcode(&self, text: &[u8], kind: Kind) -> bool
         ensures { result ≡ is_opcode self.now text.now kind }
     {
@@ -118,7 +123,8 @@ impl<'a, 's> Scope<'a, 's> {
         }
     }
 
-    /// The kind of fault of a symbol that fits no rule, where another would have the usual kind.
+    /// Returns the kind of fault of a symbol that fits no rule: a special kind for some symbols, and
+    /// otherwise `usual`.
     pub fn misfit_kind(&self, usual: OrcKind, kind: Kind) -> OrcKind
         ensures { result ≡ misfit_kind self.now usual kind }
     {
@@ -132,7 +138,7 @@ impl<'a, 's> Scope<'a, 's> {
         }
     }
 
-    // From `opcode` to `endop`, no instrument and no other definition begins.
+    // Between `opcode` and `endop`, no instrument and no other definition may begin.
     fn keyword_kind(&self, usual: OrcKind, keyword: Keyword) -> OrcKind
         ensures { result ≡ keyword_kind self.now usual keyword }
     {
@@ -145,7 +151,7 @@ impl<'a, 's> Scope<'a, 's> {
         }
     }
 
-    // Inside an `if`, the end of the text or of the part around it means a missing `endif`.
+    // Inside an `if`, the end of the text or of the enclosing part means that an `endif` is missing.
     fn early(&self, usual: OrcKind) -> OrcKind
         ensures { result ≡ early self.now usual }
     {

@@ -1,4 +1,4 @@
-// Statements, and the ones in an `if`.
+// Statements, including the statements in an `if`.
 ghost use Rattle.std.specs.Prelude.{◌≡◌, ◌≢◌, ◌≤◌, ◌<◌, ℕ, Ok, IfOk, IfErr, length, false, nat_lt, if◌then◌else◌};
 ghost use Rattle.cs_base.specs.Limits.{most_nested_ifs};
 ghost use Rattle.cs_base.specs.declared.fault.Or.TheVariants as or;
@@ -9,23 +9,23 @@ ghost use Rattle.cs_grammar.specs.{Reading.next_is, Lines.word_form, Lines.line_
 ghost use Rattle.cs_grammar.specs.Tree.{var, pair, expression, of_what, statement, block, arms, otherwise};
 ghost use Rattle.cs_grammar.specs.inner.Answers.{Gives, GivesLine, IsArm, IsCondition};
 ghost use Rattle.cs_grammar.specs.Grammar.{assign, ends_block, ReadsStmt, ReadsBlock, ReadsArms, ReadsMore};
-ghost use Rattle.cs_symbols.specs.declared.symbol.Expected.TheVariants as expected;
-ghost use Rattle.cs_symbols.specs.Symbols.{next};
+ghost use Rattle.cs_grammar.specs.declared.symbol.Expected.TheVariants as expected;
+ghost use Rattle.cs_grammar.specs.Symbols.{next};
 
 use crate::expr::Level;
 use crate::parser::Parser;
 use crate::scope::{Place, Scope};
+use crate::symbol::{Expected, Kind};
 use crate::tree::{Arm, Arms, Expr, OrcStmt, StmtWhat, Stmts};
 use cs_base::{Items, MOST_NESTED_IFS, Name, Names, Or, OrcFault, OrcKind};
-use cs_symbols::{Expected, Kind};
 use cs_words::{BinOp, Keyword, Sign, Word};
 
-/// How a line is read: by its first word and the symbol after it.
+/// The form of a line, determined by its first word and the symbol after it.
 #[derive(Clone, Copy)]
 pub enum LineForm {
     /// `name = ..` or `name += ..`
     Assignment,
-    /// Results, then an opcode.
+    /// Results, followed by an opcode.
     Results,
     /// An opcode without results.
     Bare,
@@ -33,7 +33,7 @@ pub enum LineForm {
     Conditional,
     /// A label, or an `if` inside `MOST_NESTED_IFS` others.
     Beyond,
-    /// What begins no statement.
+    /// A symbol that can't begin a statement.
     Misplaced,
 }
 
@@ -50,7 +50,8 @@ impl LineForm {
         }
     }
 
-    // The form of a line that begins with a word: by what follows, and whether the word is an opcode.
+    // The form of a line that begins with a word, determined by the symbol after it and by whether the word
+    // is an opcode.
     fn of_word(second: Kind, opcode: bool) -> LineForm
         ensures form { result ≡ word_form second opcode }
         ensures other { result ≢ form.Conditional }
@@ -95,7 +96,7 @@ impl<'s> Parser<'s> {
         }
     }
 
-    /// Reads a statement with the end of its line.
+    /// Reads a statement and the end of its line.
     #[cycle(stmt)]
     pub fn stmt(&mut self, scope: &Scope) -> Result<OrcStmt, Or<OrcFault>>
         ensures reads { Gives statement result self.new (ReadsStmt scope.now self.old) }
@@ -133,7 +134,7 @@ impl<'s> Parser<'s> {
         self.assigned(sign, name, value)
     }
 
-    // What `name = ..` or `name += ..` does, by its sign.
+    // The statement `name = ..` or `name += ..`, depending on its sign.
     fn assigned(&self, sign: Kind, name: Name, value: Expr) -> Result<StmtWhat, Or<OrcFault>>
         ensures value { (line : ℕ) → IfOk result (λ w. of_what line w ≡ assign line sign name (expression value)) }
         ensures memory { IfErr result (λ e. e ≡ or.OutOfMemory) }
@@ -190,7 +191,7 @@ impl<'s> Parser<'s> {
         Ok(StmtWhat::Choose(chain, els))
     }
 
-    /// Reads statements, up to what ends them.
+    /// Reads statements, up to the symbol that ends them.
     #[cycle(stmt)]
     pub fn block(&mut self, scope: &Scope) -> Result<Stmts, Or<OrcFault>>
         ensures reads { Gives (λ v. block v.items) result self.new (ReadsBlock scope.now (Ok self.old)) }
@@ -203,7 +204,7 @@ impl<'s> Parser<'s> {
         Ok(stmts)
     }
 
-    // The arms after `if`, and the statements after `else`, with `endif`.
+    // Reads the arms after `if`, and the statements after `else`, including `endif`.
     #[cycle(stmt)]
     fn arms(&mut self, scope: &Scope) -> Result<(Arms, Stmts), Or<OrcFault>>
         ensures reads { Gives (λ p. arms (block p.1.items) p.0.items) result self.new
@@ -221,7 +222,7 @@ impl<'s> Parser<'s> {
         }
     }
 
-    // An arm, behind `if` or `elseif`.
+    // Reads an arm, after `if` or `elseif`.
     #[cycle(stmt)]
     fn arm(&mut self, scope: &Scope) -> Result<Arm, Or<OrcFault>>
         ensures reads { Gives (λ a. (expression (out-Arm a).cond, block (out-Arm a).body.items)) result self.new
@@ -233,7 +234,7 @@ impl<'s> Parser<'s> {
         Ok(Arm { cond, body })
     }
 
-    // A condition, with `then` and the end of its line.
+    // Reads a condition, `then`, and the end of the line.
     fn condition(&mut self, scope: &Scope) -> Result<Expr, Or<OrcFault>>
         ensures reads { Gives expression result self.new (IsCondition scope.now self.old) }
         ensures goes { length self.new ≤ length self.old }
@@ -243,7 +244,7 @@ impl<'s> Parser<'s> {
         self.ended(scope, cond)
     }
 
-    // The statements after `else`, if it is next, and `endif`.
+    // Reads the statements after `else`, if it is next, and `endif`.
     #[cycle(stmt)]
     fn otherwise(&mut self, scope: &Scope) -> Result<Stmts, Or<OrcFault>>
         requires { next_is expected.Elseif self.old ≡ false }

@@ -1,4 +1,4 @@
-// The tree of an orchestra: what the layers above read in place of tokens.
+// The tree of an orchestra, which the layers above read instead of tokens.
 use cs_base::{Name, Names, Num, Numbers, Rates};
 use cs_words::{BinOp, Func, HeadName, Opcode};
 
@@ -8,12 +8,12 @@ pub enum Expr {
     /// A literal without a sign.
     Number(Num),
     Var(Name),
-    /// `p1` to `p100`, by its number.
+    /// `p1` to `p100`, with its number.
     Field(u32),
     Head(HeadName),
     Neg(Box<Expr>),
     Pair(BinOp, Box<Expr>, Box<Expr>),
-    /// Condition, value where it holds, value where it doesn't.
+    /// A condition, the value if it is true, and the value if it is false.
     Pick(Box<Expr>, Box<Expr>, Box<Expr>),
     Call(Func, Box<Expr>),
 }
@@ -26,14 +26,15 @@ pub enum Arg {
     Text(Name),
 }
 
+/// The arguments of a call.
 pub type Args = Vec<Arg>;
 
-/// What a statement calls.
+/// The opcode that a statement calls.
 #[derive(Drop)]
 pub enum Callee {
     /// An opcode of the catalogue.
     Opcode(Opcode),
-    /// Any other name: that of a defined opcode, or of none.
+    /// Any other name, whether or not it is the name of a user-defined opcode.
     Name(Name),
 }
 
@@ -45,21 +46,22 @@ pub struct OrcStmt {
     pub what: StmtWhat,
 }
 
+/// Statements, in order.
 pub type Stmts = Vec<OrcStmt>;
 
-/// What a statement does.
+/// The form of a statement.
 #[derive(Drop)]
 #[cycle(stmt)]
 pub enum StmtWhat {
     /// `name = expression`; `name += expression` is read as `name = name + expression`.
     Set(Name, Expr),
-    /// Results, what is called, arguments.
+    /// The variables that receive the results, the called opcode, and the arguments.
     Call(Names, Callee, Args),
     /// The arms of `if` and `elseif`, and the statements after `else`.
     Choose(Arms, Stmts),
 }
 
-/// A condition, and the statements that run where it is the first that holds.
+/// A condition, and the statements that run if it is the first true one.
 #[derive(Drop)]
 #[cycle(stmt)]
 pub struct Arm {
@@ -67,9 +69,10 @@ pub struct Arm {
     pub body: Vec<OrcStmt>,
 }
 
+/// The arms of an `if`, in order.
 pub type Arms = Vec<Arm>;
 
-/// A header line, as `sr = 48000`.
+/// A header line, such as `sr = 48000`.
 #[derive(Clone, Copy)]
 pub struct HeadLine {
     pub line: u32,
@@ -81,12 +84,12 @@ pub struct HeadLine {
 #[derive(Drop)]
 pub struct Instr {
     pub line: u32,
-    /// Each from 1 to 32,767, and in no other instrument.
+    /// Numbers from 1 to 32,767, which no other instrument has.
     pub numbers: Numbers,
     pub body: Stmts,
 }
 
-/// A defined opcode, with the line of its `opcode`.
+/// A user-defined opcode, with the line of its `opcode`.
 #[derive(Drop)]
 pub struct Udo {
     pub line: u32,
@@ -95,15 +98,15 @@ pub struct Udo {
     pub outs: Rates,
     /// The rates of the inputs.
     pub ins: Rates,
-    /// The local names that take the inputs.
+    /// The local variables that receive the inputs.
     pub names: Names,
     pub body: Stmts,
-    /// What `xout` gives: as many expressions as there are results.
+    /// The values of `xout`: one for each result.
     pub result: Args,
 }
 
-/// An orchestra: its header lines, defined opcodes, statements outside both, and instruments, each in the order of
-/// the text.
+/// An orchestra: its header lines, user-defined opcodes, statements outside both, and instruments, each in
+/// the order of the text.
 #[derive(Drop)]
 pub struct Orc {
     pub head: Vec<HeadLine>,

@@ -1,16 +1,16 @@
-// The first line of a definition: the names that take its inputs.
+// The first line of a definition: the names that receive its inputs.
 ghost use Rattle.std.specs.Prelude.{◌≡◌, ◌≤◌, ◌<◌, ◌^◌, ◌++◌, IfOk, IfSome, length};
 ghost use Rattle.cs_words.specs.NameSets.{has};
 ghost use Rattle.cs_grammar.specs.{Inputs.is_free, Inputs.is_local, inner.Answers.Gives};
 ghost use Rattle.cs_grammar.specs.inner.Takes.{input_count, plus_one, is_input, are_inputs, words, at_xin, inputs};
 ghost use Rattle.cs_grammar.specs.inner.Takes.{no_names, taken_so_many, is_none, first_fits, after_first};
-ghost use Rattle.cs_symbols.specs.Symbols.{next};
+ghost use Rattle.cs_grammar.specs.Symbols.{next};
 
 use crate::heading::Heading;
 use crate::parser::Parser;
 use crate::scope::Scope;
+use crate::symbol::Expected;
 use cs_base::{Names, Or, OrcFault, OrcKind, Rate};
-use cs_symbols::Expected;
 use cs_words::{is_global, name_rate};
 use std::alloc::AllocError;
 
@@ -57,7 +57,7 @@ impl<'s> Parser<'s> {
         self.kind().is_plain() && !self.at_opcode(scope)
     }
 
-    // How many free words stand before `xin`, with commas between them: None where the line isn't of that form.
+    // The number of free words before `xin`, separated by commas; None if the line doesn't have this form.
     #[tactic(auto, using(crate::proofs::Steps::some_word))]
     fn input_count(&self, scope: &Scope) -> Option<usize>
         ensures count { result ≡ input_count scope.now self.now }
@@ -67,7 +67,8 @@ impl<'s> Parser<'s> {
         ahead.count_words(scope)
     }
 
-    // The same by a reader that goes on: up to `xin`, or to where the line isn't of that form.
+    // Counts the free words before `xin` as `input_count` does, but advances the reader: up to `xin`, or to
+    // the symbol that doesn't fit the form.
     fn count_words(&mut self, scope: &Scope) -> Option<usize>
         requires { length self.old < 2 ^ 63 }
         ensures { result ≡ input_count scope.now self.old }
@@ -86,21 +87,22 @@ impl<'s> Parser<'s> {
         plus_one(self.count_words(scope))
     }
 
-    // Whether the next symbol is a variable that each call has for itself.
+    // Whether the next symbol is a local variable, which each call has separately.
     fn at_local(&self, scope: &Scope) -> bool
         ensures { result ≡ is_local scope.now (next self.now) }
     {
         self.at_variable(scope) && !is_global(self.text())
     }
 
-    // Whether the next symbol is a local name of the rate that isn't among those before.
+    // Whether the next symbol is a local variable of rate `rate` that isn't among the names `before`.
     fn at_input(&self, scope: &Scope, before: &Names, rate: Rate) -> bool
         ensures { result ≡ is_input scope.now before.now rate (next self.now) }
     {
         self.at_local(scope) && rate.same(name_rate(self.text())) && !is_among(before, self.text())
     }
 
-    // Takes `count` names, and stops at `xin`. Returns whether they fit the inputs `ins`, after `names`.
+    // Reads `count` names, adds them to `names`, and stops at `xin`. Returns whether they fit the inputs
+    // `ins` and differ from the names before them.
     fn take_inputs(
         &mut self,
         scope: &Scope,
@@ -125,7 +127,7 @@ impl<'s> Parser<'s> {
         Ok(fit && others)
     }
 
-    // Whether the next symbol is the name of the first of these inputs.
+    // Whether the next symbol is a valid name for the first of these inputs.
     fn first_fits(&self, scope: &Scope, before: &Names, ins: &[Rate]) -> bool
         ensures { result ≡ first_fits scope.now before.now ins.now (next self.now) }
     {
@@ -135,7 +137,7 @@ impl<'s> Parser<'s> {
         }
     }
 
-    /// Reads the names that take the inputs.
+    /// Reads the names that receive the inputs.
     pub fn inputs(&mut self, scope: &Scope, heading: &Heading) -> Result<Names, Or<OrcFault>>
         ensures { Gives (λ ns. ns) result self.new (λ o. o ≡ inputs scope.now heading.now self.old) }
     {

@@ -1,4 +1,4 @@
-// The last line of a definition: the values that it gives.
+// The last line of a definition: the values of its results.
 ghost use Rattle.std.specs.Prelude.{◌≡◌, Ok, map};
 ghost use Rattle.cs_grammar.specs.{Tree.argument, Orchestra.ReadsXout, Orchestra.ReadsResult};
 ghost use Rattle.cs_grammar.specs.inner.Answers.{Gives, Passes, last_left};
@@ -7,11 +7,11 @@ ghost use Rattle.cs_grammar.specs.inner.Takes.{are_results, results_of, no_resul
 use crate::lists::Role;
 use crate::parser::Parser;
 use crate::scope::Scope;
+use crate::symbol::Expected;
 use crate::tree::{Arg, Args};
 use cs_base::{Or, OrcFault, OrcKind, Rate};
-use cs_symbols::Expected;
 
-// One value for each result.
+// Whether there is one value for each result.
 fn are_results(values: &[Arg], outs: &[Rate]) -> bool
     ensures { result ≡ are_results (map argument values.now) outs.now }
 {
@@ -32,7 +32,7 @@ impl<'s> Parser<'s> {
         self.judged(scope, line, outs, values)
     }
 
-    // Reads the values of `xout`, with the end of their line.
+    // Reads the values of `xout`, and the end of the line.
     fn values(&mut self, scope: &Scope) -> Result<Args, Or<OrcFault>>
         ensures { Gives (λ v. map argument v.items) result self.new (ReadsXout scope.now self.old) }
     {
@@ -41,7 +41,7 @@ impl<'s> Parser<'s> {
         self.ended(scope, values)
     }
 
-    // The values of `xout` at a line: one for each result, and then `endop`.
+    // Checks the values of `xout` on line `line`: there must be one for each result, and `endop` must follow.
     fn judged(
         &self,
         scope: &Scope,
@@ -62,7 +62,7 @@ impl<'s> Parser<'s> {
         Ok(values)
     }
 
-    // What must follow the line of `xout`: `endop`.
+    // Checks that `endop` follows the line of `xout`.
     fn last_line(&self, scope: &Scope) -> Result<(), Or<OrcFault>>
         ensures { Passes result self.now (last_left scope.now self.now) }
     {

@@ -1,4 +1,4 @@
--- What the class of a byte means.
+-- The meaning of a byte's class.
 use Rattle.std.proofs.lemmas.{Grind.common_steps, Bool.Decides.nat_tests}
 use Rattle.std.proofs.Common.{◌≡◌, ◌≢◌, ℕ, Bool, true, false, ◌&&◌, ◌||◌, ◌==◌, not, arith, refl, if◌then◌else◌}
 use Rattle.std.specs.Char.{is_ascii_digit}
@@ -7,7 +7,7 @@ use Rattle.cs_base.specs.Lines.{is_blank}
 use Rattle.cs_lex.specs.Bytes.{is_letter, is_allowed, is_short_sign}
 use Rattle.cs_lex.specs.declared.class.Class.TheVariants as class
 
--- what a byte of each class is
+-- the property of a byte of each class
 abbrev pub Means : Class → ℕ → Type 0
 Means class.Letter b = is_letter b ≡ true
 Means class.Digit b = is_ascii_digit b ≡ true

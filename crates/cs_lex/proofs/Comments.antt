@@ -1,4 +1,4 @@
--- How long a comment is.
+-- The length of a comment.
 use Rattle.std.proofs.lemmas.{Grind.common_steps, Bool.false≢true, Bool.and_parts, Bool.Decides.nat_tests}
 use Rattle.std.proofs.lemmas.{List.length-append, List.length-drop, List.Sums.prefix_len-le-length}
 use Rattle.std.proofs.Common.{◌≡◌, ◌+◌, ◌<◌, ◌≤◌, ℕ, Bool, true, false, ◌&&◌, ◌||◌, not, List, length, drop, arith, sym}
@@ -38,7 +38,7 @@ closed_within text h k =
     let inside : close_of (drop 2 text) < length (drop 2 text) = grind (arith, nat_tests, there) in
     omega (arith, close_fits (drop 2 text) inside, length-drop 2 text, two_bytes text k)
 
--- a comment lies in its text
+-- a comment is at most as long as its text
 pub comment_within : (text : List ℕ) → comment_len text ≤ length text
 comment_within text = grind (arith, common_steps, closed_within, pick_within, prefix_len-le-length)
 
@@ -48,7 +48,7 @@ line_some text h = grind (arith, common_steps, by_test, codes, front_is)
 open_some : (text : List ℕ) → is_open_comment text ≡ true → 0 < length text
 open_some text h = grind (arith, common_steps, and_parts, not, two_bytes)
 
--- and has a byte
+-- a comment has at least one byte
 pub comment_some : (text : List ℕ) → begins_comment text ≡ true → 0 < comment_len text
 comment_some text h = grind (arith, common_steps, line_some, open_some, pick_some)
 

@@ -1,4 +1,4 @@
--- A span of a row's form is what the reader finds there, and a fault is the fault that it finds.
+-- The reader finds every span that satisfies a lexical rule, and every fault.
 use Rattle.std.proofs.lemmas.{Grind.common_steps, Bool.Decides.nat_tests, List.Folds.list_all-append}
 use Rattle.std.proofs.Common.{◌≡◌, ◌≢◌, ◌+◌, ◌<◌, ℕ, suc, Bool, true, false, ◌&&◌, ◌||◌, ◌==◌, not, List, [], ◌∷◌, ◌++◌}
 use Rattle.std.proofs.Common.{length, drop, take, arith, ap, sym, ◌∙◌, codes, refl, subst, inl, inr, ◌⊎◌, Option, Some}
@@ -26,6 +26,7 @@ use Rattle.cs_base.specs.declared.fault.OrcKind.TheVariants as orc
 use Rattle.cs_lex.specs.declared.token.Mark.TheVariants as mark
 use Rattle.cs_lex.specs.declared.class.Class.TheVariants as class
 
+-- a piece of n bytes with this mark
 abbrev pub found : Option Mark → ℕ → Result Front OrcKind
 found m n = Ok (record { mark = m; len = n })
 
@@ -50,7 +51,7 @@ digit_is_no_letter b h = grind (arith, nat_tests)
 digit_class : (b : ℕ) → is_ascii_digit b ≡ true → class_of b ≡ class.Digit
 digit_class b h = rw (digit_is_no_letter b h, h)
 
--- a test that holds of each of these bytes holds of any of them
+-- a test that every byte of a list passes is passed by any one of them
 each_of : (test : ℕ → Bool) (b : ℕ) (xs : List ℕ) → list_all test xs ≡ true → list_any (λ x. b == x) xs ≡ true
     → test b ≡ true
 each_of test b [] h k = absurd (false≢true k)
@@ -101,7 +102,7 @@ digit_allowed b h = grind (arith, nat_tests)
 blank_allowed : (b : ℕ) → is_blank b ≡ true → is_allowed b ≡ true
 blank_allowed b h = grind (arith, nat_tests)
 
--- a byte of every class but Bad is allowed
+-- a byte of any class except Bad is allowed
 allowed : (c : Class) (b : ℕ) → Means c b → (c ≡ class.Bad) ⊎ (is_allowed b ≡ true)
 allowed class.Letter b h = inr (letter_allowed b h)
 allowed class.Digit b h = inr (digit_allowed b h)
@@ -117,9 +118,9 @@ bad_class b h = elim (allowed (class_of b) b (class_means b)) [ inl e ↦ e | in
 stray_class : (b : ℕ) → is_stray b ≡ true → class_of b ≡ class.Stray
 stray_class b h = grind (arith, common_steps, and_parts, class_means, not, or_last)
 
--- ---- the row of each form
+-- ---- the lexical rule of each form
 
--- what follows the longest span of bytes of one kind is no byte of that kind
+-- the longest span of bytes that satisfy p is not followed by such a byte
 ends_run : (p : ℕ → Bool) (form : List ℕ → Bool) (span after : List ℕ) → Longest form span after
     → ((c : ℕ) → p c ≡ true → form (span ++ c ∷ []) ≡ true) → begins p after ≡ false
 ends_run p form span [] h goes = refl
@@ -233,7 +234,7 @@ numeral_is text span after f e h =
     let same = longest_once is_numeral f.span f.after span after f.longest h (sym f.whole ∙ e) in
     (same, append_cancel_left span f.after after (ap (λ t. t ++ f.after) (sym same) ∙ sym f.whole ∙ e))
 
--- where a decimal stands at the front, the reader looks for a number
+-- if a text begins with a decimal, the reader looks for a number
 record LooksForNumber (text : List ℕ) : Type 0 where
   front : NumeralFront text
   looks : front_of text ≡ number_front text

@@ -1,4 +1,4 @@
--- What a text reads as, computed: for worked examples.
+-- The tokens of a text, computed for worked examples.
 use Rattle.std.proofs.Common.{arith, ◌≡◌, ℕ, zero, suc, true, List, [], ◌∷◌, ◌++◌, drop, take, sym, refl, subst, Result}
 use Rattle.std.proofs.Common.{Ok, Err}
 use Rattle.std.proofs.lemmas.{Grind.common_steps, List.append_assoc, List.take_at, List.drop_at}
@@ -7,18 +7,21 @@ use Rattle.cs_lex.specs.{declared.token.Token.Token, declared.front.Front.Front,
 use Rattle.cs_lex.specs.Lexed.{TextPiece, text_of, IsCut, Lexed, LexFault, tokens_after, merged, end_of}
 use Rattle.cs_lex.proofs.Sound.{Starts, Right, front_right}
 
--- pieces at the front of a text, and what is left after them
+-- pieces at the start of a text, and the text that remains after them
 pub record Got : Type 0 where
   pub pieces : List TextPiece
   pub rest : List ℕ
 
+-- a result with one more piece in front
 abbrev pub put : TextPiece → Got → Got
 put p g = record { pieces = p ∷ g.pieces; rest = g.rest }
 
+-- the pieces from a reader's result on
 abbrev pub got_on : (List ℕ → Got) → List ℕ → Result Front OrcKind → Got
 got_on more text (Err k) = record { pieces = []; rest = text }
 got_on more text (Ok f) = put (record { mark = f.mark; span = take f.len text }) (more (drop f.len text))
 
+-- at most n pieces, and the text that remains after them
 abbrev pub got : ℕ → List ℕ → Got
 got zero text = record { pieces = []; rest = text }
 got (suc n) [] = record { pieces = []; rest = [] }
@@ -38,14 +41,14 @@ is_cut (suc n) (b ∷ rest) = on (front_of (b ∷ rest)) (front_right b rest) (i
     on (Err k) h cut = record { whole = refl; fit = tt }
     on (Ok f) h cut = is_cut_on (b ∷ rest) f (got n (drop f.len (b ∷ rest))) h (cut (drop f.len (b ∷ rest)))
 
--- nothing is left: these are the tokens
+-- nothing remains: these are the tokens
 pub reads : (first : ℕ) (n : ℕ) (source : List ℕ) (tokens : List Token) → (got n source).rest ≡ []
     → tokens ≡ merged true (tokens_after first [] (got n source).pieces) ++ end_of (excerpt first source) ∷ []
     → Lexed (excerpt first source) tokens
 reads first n source tokens none is =
     ((got n source).pieces, subst (IsCut source (got n source).pieces) none (is_cut n source), is)
 
--- a fault is left
+-- a fault remains
 pub refuses : (first : ℕ) (n : ℕ) (source : List ℕ) (line : ℕ) (kind : OrcKind) (b : ℕ) (rest : List ℕ)
     → (got n source).rest ≡ b ∷ rest → front_of (b ∷ rest) ≡ Err kind
     → line ≡ line_after first (text_of (got n source).pieces) → LexFault (excerpt first source) line kind

@@ -1,4 +1,4 @@
--- Every text is cut in one way, up to its end or its first fault.
+-- Every text can be cut in exactly one way, up to its end or its first fault.
 use Rattle.std.proofs.lemmas.{Grind.common_steps, List.append_assoc, List.length-append, List.take_at, List.drop_at}
 use Rattle.std.proofs.Common.{◌≡◌, ◌<◌, ◌≤◌, ℕ, zero, suc, true, List, [], ◌∷◌, ◌++◌, length, drop, take, arith, ap}
 use Rattle.std.proofs.Common.{sym, ◌∙◌, refl, subst, inl, inr, ◌⊎◌, Option, Result, Ok, Err}
@@ -18,7 +18,7 @@ same_span a b c d e l =
     let front : a ≡ c = sym (take_at a b (length a) refl) ∙ ap (take (length a)) e ∙ take_at c d (length a) (sym l) in
     (front, sym (drop_at a b (length a) refl) ∙ ap (drop (length a)) e ∙ drop_at c d (length a) (sym l))
 
--- one text begins with one piece
+-- a text begins with at most one piece
 pub same_front : (m m' : Option Mark) (a b c d : List ℕ) → Fits m a b → Fits m' c d → a ++ b ≡ c ++ d
     → (m ≡ m') × (a ≡ c) × (b ≡ d)
 same_front m m' a b c d h k e = grind (arith, common_steps, fits_found, same_piece, same_span)
@@ -26,12 +26,12 @@ same_front m m' a b c d h k e = grind (arith, common_steps, fits_found, same_pie
 apart : (r : Result Front OrcKind) (f : Front) (k : OrcKind) → r ≡ Ok f → r ≡ Err k → ⊥
 apart r f k e g = cc
 
--- and not with a fault too
+-- a text that begins with a piece doesn't begin with a fault
 pub no_both : (m : Option Mark) (a b : List ℕ) (k : OrcKind) → Fits m a b → IsFault (a ++ b) k → ⊥
 no_both m a b k h f = apart (front_of (a ++ b)) (record { mark = m; len = length a }) k (fits_found m a b h)
     (fault_found (a ++ b) k f)
 
--- a piece has a byte
+-- a piece has at least one byte
 pub some_byte : (m : Option Mark) (a b : List ℕ) → Fits m a b → 0 < length a
 some_byte m (c ∷ a) b h = omega arith
 some_byte m [] [] h = absurd
@@ -40,7 +40,7 @@ some_byte m [] (c ∷ b) h =
     let starts : Starts (c ∷ b) m 0 = subst (Right (c ∷ b)) (fits_found m [] (c ∷ b) h) (front_right c b) in
     starts.some
 
--- what a cut ends with: nothing, or a fault
+-- the end of a cut: nothing, or a fault
 abbrev pub Ends : List ℕ → Type 0
 Ends rest = (rest ≡ []) ⊎ ((k : OrcKind) × IsFault rest k)
 
@@ -73,7 +73,7 @@ one_cut (p ∷ ps) (q ∷ qs) rest rest' e h k f g =
         let spans : record { mark = q.mark; span = p.span } ≡ q = ap (λ t. record { mark = q.mark; span = t }) f in
         ap (λ x. x ∷ ps) (marks ∙ spans) ∙ ap (λ t. q ∷ t) g
 
--- every text is cut up to its end or a fault
+-- every text can be cut up to its end or a fault
 pub record Cut (text : List ℕ) : Type 0 where
   pub pieces : List TextPiece
   pub rest : List ℕ

@@ -1,4 +1,4 @@
--- The decimal at the front of a text.
+-- The decimal at the start of a text.
 use Rattle.std.proofs.lemmas.{Grind.common_steps, Bool.Decides.nat_tests, List.nil_from_length}
 use Rattle.std.proofs.Common.{◌≡◌, ◌+◌, ◌<◌, ℕ, suc, Bool, true, false, ◌&&◌, ◌||◌, ◌==◌, List, [], ◌∷◌, ◌++◌, length}
 use Rattle.std.proofs.Common.{drop, take, arith, ap, sym, ◌∙◌, refl, inl, inr, ◌⊎◌, nat_lt}
@@ -18,7 +18,7 @@ digit_is_no_point b h = grind (arith, nat_tests)
 plus_zero : (n : ℕ) → n + 0 ≡ n
 plus_zero n = omega arith
 
--- before the first point of a text that goes on with digits stands what stands before it in the rest
+-- leading digits don't contain the first point: its index is their number plus its index in the rest
 pub before_digits : (ds rest : List ℕ) → list_all is_ascii_digit ds ≡ true
     → position_or_len is_point (ds ++ rest) ≡ length ds + position_or_len is_point rest
 before_digits [] rest h = omega arith
@@ -56,7 +56,7 @@ before_point_goes_on ds c more h point =
 middle_false : (a b c : Bool) → b ≡ false → (a && b && c) ≡ false
 middle_false a b c h = rw h (ap (λ t. t && c) (and-false a))
 
--- a text that goes on with a byte that is neither digit nor point is no decimal
+-- a text that continues with a byte that is neither digit nor point is no decimal
 pub digits_cut : (ds : List ℕ) (c : ℕ) (more : List ℕ) → list_all is_ascii_digit ds ≡ true → is_ascii_digit c ≡ false
     → is_point c ≡ false → is_numeral (ds ++ c ∷ more) ≡ false
 digits_cut ds c more h digit point = grind (arith, common_steps, before_point_goes_on, list_all_cut, middle_false)
@@ -69,7 +69,7 @@ pub parts_cut : (ds es : List ℕ) (c : ℕ) (more : List ℕ) → list_all is_a
 parts_cut ds es c more h digit = last_false _ _
     (ap (list_all is_ascii_digit) (part_digits ds (es ++ c ∷ more) h) ∙ list_all_cut is_ascii_digit es c more digit)
 
--- the longest decimal at the front of a text
+-- the longest decimal at the start of a text
 pub record NumeralFront (text : List ℕ) : Type 0 where
   pub span : List ℕ
   pub after : List ℕ

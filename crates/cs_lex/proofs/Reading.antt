@@ -1,4 +1,4 @@
--- One pass over a text: what has been read, and one piece more.
+-- One pass over a text: the part that has been read, and one more piece.
 use Rattle.std.proofs.lemmas.Grind.{common_steps}
 use Rattle.std.proofs.Common.{◌≡◌, ◌+◌, ◌-◌, ◌<◌, ◌≤◌, ℕ, Bool, true, List, [], ◌∷◌, ◌++◌, length, drop, take, arith}
 use Rattle.std.proofs.Common.{ap, sym, ◌∙◌, refl, subst, Option, Some, None, Result, Ok, Err, IfOk, count_by}
@@ -12,6 +12,7 @@ use Rattle.cs_lex.specs.Lexed.{TextPiece, text_of, AllFit, Lexed, LexFault, toke
 use Rattle.cs_lex.specs.inner.Front.{front_of, given, fed_by}
 use Rattle.cs_lex.proofs.Sound.{Starts, Right, front_right}
 
+-- whether the last token is a line feed, or there is none, after some tokens
 abbrev pub fed_after : Bool → List Token → Bool
 fed_after fed [] = fed
 fed_after fed (t ∷ ts) = fed_after (is_newline t) ts
@@ -40,7 +41,7 @@ tokens_on first before [] p = append-nil (token_of first p.mark before p.span)
     ∙ ap (λ t. token_of first p.mark t p.span) (sym (append-nil before))
 tokens_on first before (q ∷ ps) p = grind (arith, common_steps, append_assoc, tokens_on first (before ++ q.span) ps p)
 
--- what has been read of a text: the pieces up to a place, the line there, and the tokens so far
+-- the part of a text that has been read: the pieces up to an index, the line there, and the tokens so far
 pub record Read (first : ℕ) (source : List ℕ) (at line : ℕ) (fed : Bool) (tokens : List Token) : Type 0 where
   pub pieces : List TextPiece
   pub place : at ≡ length (text_of pieces)
@@ -61,7 +62,7 @@ nothing_read first source = record {
   fed_is = refl;
 }
 
--- one piece more
+-- one more piece
 read_piece : (first : ℕ) (source : List ℕ) (at line : ℕ) (fed : Bool) (tokens : List Token) (m : Option Mark)
     (n feeds : ℕ) (fed' : Bool) (tokens' : List Token) (r : Read first source at line fed tokens)
     (s : Starts (drop at source) m n) → feeds ≡ count_by is_feed (take n (drop at source))
@@ -104,6 +105,7 @@ read_gap first source at line fed tokens n feeds r s f =
     read_piece first source at line fed tokens None n feeds fed tokens r s f (r.fed_is ∙ ap (fed_after true) (sym none))
     (r.tokens_are ∙ ap (merged true) (sym none))
 
+-- a token with these fields
 abbrev pub made : Mark → ℕ → ℕ → ℕ → Token
 made m x y z = record { mark = m; from = x; to = y; line = z }
 
@@ -130,13 +132,13 @@ pub at_line : (first : ℕ) (source : List ℕ) (at line line' : ℕ) (fed : Boo
     → Read first source at line fed tokens → Read first source at line' fed tokens
 at_line first source at line line' fed tokens e r = subst (λ x. Read first source at x fed tokens) (sym e) r
 
--- what was read of the whole text gives its tokens
+-- if the entire text has been read, these are its tokens
 pub all_read : (first : ℕ) (source : List ℕ) (at line : ℕ) (fed : Bool) (tokens : List Token)
     → Read first source at line fed tokens
     → length source ≤ at → Lexed (excerpt first source) (tokens ++ end_of (excerpt first source) ∷ [])
 all_read first source at line fed tokens r l = grind (arith, common_steps, drop_all)
 
--- a fault at the front of the rest is the first of the text
+-- a fault at the start of the rest is the text's first fault
 pub fault_read : (first : ℕ) (source : List ℕ) (at line : ℕ) (fed : Bool) (tokens : List Token) (k : OrcKind)
     → Read first source at line fed tokens → IsFault (drop at source) k → LexFault (excerpt first source) line k
 fault_read first source at line fed tokens k r f =
@@ -146,7 +148,7 @@ right : (text : List ℕ) → 0 < length text → Right text (front_of text)
 right [] l = absurd (omega arith)
 right (b ∷ rest) l = front_right b rest
 
--- what the reader answers of the rest of a text
+-- the reader's result for the rest of a text is right
 pub starts : (source : List ℕ) (at : ℕ) (f : Front) → at < length source → Ok f ≡ front_of (drop at source)
     → Starts (drop at source) f.mark f.len
 starts source at f l e =
@@ -164,7 +166,7 @@ front_within text l = by (front_of text) (right text l)
     by (Err k) h = tt
     by (Ok f) h = (h.some, omega (arith, h.len, ap length h.whole, length-append h.span h.after))
 
--- ---- one turn of the reader
+-- ---- one step of the reader
 
 rest_is : (source : List ℕ) (at : ℕ) (f : Front) → Ok f ≡ front_of (take (length source - at) (drop at source))
     → Ok f ≡ front_of (drop at source)
@@ -207,7 +209,7 @@ pub next_fault : (first : ℕ) (source : List ℕ) (at line : ℕ) (fed : Bool) 
 next_fault first source at line fed tokens k l r e =
     fault_read first source at line fed tokens k r (faults source at k l (e ∙ ap front_of (take_rest source at)))
 
--- the line of a text's last byte, by that of its end
+-- the line of a text's last byte, from the line at its end
 pub last_line : (k : ℕ) (source : List ℕ) (line feeds : ℕ) → count_by is_feed source ≤ line
     → feeds ≡ count_by is_feed (drop k source)
     → (feeds ≤ line) × (line - feeds ≡ line_after (line - count_by is_feed source) (take k source))

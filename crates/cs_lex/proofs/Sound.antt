@@ -1,4 +1,5 @@
--- What the reader finds at the front of a text is of its row's form, or a fault.
+-- Every piece that the reader finds at the start of a text satisfies its lexical rule, and every fault is
+-- one.
 use Rattle.std.proofs.lemmas.{Grind.common_steps, Bool.Decides.nat_tests}
 use Rattle.std.proofs.Common.{if◌then◌else◌, Err, ◌≡◌, ◌≢◌, ◌+◌, ◌<◌, ℕ, Bool, true, false, ◌&&◌, ◌==◌, not, List, []}
 use Rattle.std.proofs.Common.{◌∷◌, ◌++◌, length, drop, take, arith, ap, sym, ◌∙◌, codes, refl, subst, inl, inr, ◌⊎◌}
@@ -36,7 +37,7 @@ pub record Starts (text : List ℕ) (m : Option Mark) (n : ℕ) : Type 0 where
   pub some : 0 < n
   pub fits : Fits m span after
 
--- what was found is right
+-- the reader's result is right
 abbrev pub Right : List ℕ → Result Front OrcKind → Type 0
 Right text r = MatchResult r (λ f. Starts text f.mark f.len) (λ k. IsFault text k)
 
@@ -49,7 +50,7 @@ blank_right b rest h = one_byte None b rest (inl (b, h, refl))
 feed_right : (rest : List ℕ) → Right (10 ∷ rest) (token mark.NewLine 1)
 feed_right rest = one_byte (Some mark.NewLine) 10 rest refl
 
--- a run from the front, as a piece
+-- a run of bytes at the start of a text, as a piece
 run_starts : (p : ℕ → Bool) (text : List ℕ) (m : Option Mark) (s : Split p text) → 0 < length s.front
     → Fits m s.front s.after → Starts text m (run p text)
 run_starts p text m s some fits =
@@ -302,7 +303,7 @@ slash_right rest = by (begins_comment (47 ∷ rest)) refl
 differs : (a b : ℕ) → b ≢ a → nat_eq a b ≡ false
 differs a b h = grind (arith, nat_tests)
 
--- what the reader finds at the front of a text is right
+-- the reader's result at the start of a text is right
 pub front_right : (b : ℕ) (rest : List ℕ) → Right (b ∷ rest) (front_of (b ∷ rest))
 front_right b rest = by (class_of b) b rest (class_means b)
   where

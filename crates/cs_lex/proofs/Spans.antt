@@ -1,4 +1,4 @@
--- Where tokens stand: each within the text, one after the other, End alone at the end.
+-- The positions of tokens: each is within the text, they follow one another, and End appears only at the end.
 use Rattle.std.proofs.lemmas.{Grind.common_steps, List.length-append, List.append-nil, List.append_assoc}
 use Rattle.std.proofs.lemmas.{List.Elements.All-cons, List.Elements.All-append, List.Kept.AllPairs-cons}
 use Rattle.std.proofs.Common.{get_or, ◌≡◌, ◌≢◌, ◌+◌, ◌-◌, ◌<◌, ◌≤◌, ◌∙◌, refl, count_by, ℕ, suc, Bool, true, false}
@@ -13,7 +13,7 @@ use Rattle.cs_base.proofs.Texts.{count_by-append}
 use Rattle.cs_lex.proofs.Cuts.{some_byte}
 use Rattle.cs_lex.specs.declared.token.Mark.TheVariants as mark
 
--- a token whose span lies in a text of n bytes
+-- a token whose span is within a text of n bytes
 abbrev IsWithin : ℕ → Token → Type 0
 IsWithin n t = (t.from ≤ t.to) × (t.to ≤ n)
 
@@ -56,7 +56,7 @@ within first source ts (ps, cut, is) =
     (of_merged n true (tokens_after first [] ps) (of_pieces first n [] ps (omega (arith, ap length cut.whole))))
     (All-cons (IsWithin n) (end_of (excerpt first source)) [] (omega arith, omega arith) (none n)))
 
--- ---- what is true of each token stays true where line feeds are merged
+-- ---- a property of every token still holds after line feeds are merged
 
 merged_all : (P : Token → Type 0) (fed : Bool) (ts : List Token) → All P ts → All P (merged fed ts)
 merged_all P fed [] h = h
@@ -82,7 +82,7 @@ merged_pairs R fed (t ∷ ts) h =
     by true us h k = k
     by false us h k = AllPairs-cons R t us h k
 
--- one item more at the end
+-- one more item at the end
 pairs_and_one : (R : Token → Token → Type 0) (ts : List Token) (e : Token) → AllPairs R ts → All (λ t. R t e) ts
     → AllPairs R (ts ++ e ∷ [])
 pairs_and_one R [] e h k = AllPairs-cons R e [] (λ i d l. absurd (omega arith)) (no_pairs R)
@@ -92,9 +92,9 @@ pairs_and_one R (t ∷ ts) e h k =
     (pairs_and_one R ts e (λ i j d l m. h (suc i) (suc j) d (omega arith) (omega arith))
     (λ i d l. k (suc i) d (omega arith)))
 
--- ---- one after the other
+-- ---- one after another
 
--- a token that begins at a place or after it, on a line or after it
+-- a token that begins at or after an index, on a line or after it
 abbrev IsAfter : ℕ → ℕ → Token → Type 0
 IsAfter at line t = (at ≤ t.from) × (line ≤ t.line)
 
@@ -121,7 +121,7 @@ pieces_after first before (p ∷ ps) =
     here (Some m) = All-cons (IsAfter (length before) (line_after first before)) (token_at first m before p.span) []
         (omega arith, omega arith) (λ k d l. absurd (omega arith))
 
--- what a token says of a later one
+-- the relation between a token and a later one
 abbrev Leads : Token → Token → Type 0
 Leads t u = Precedes t u × IsEndedBy t u
 
@@ -144,9 +144,9 @@ pieces_lead first before (p ∷ ps) rest h =
     one_leads first before p.span (text_of ps ++ rest) p.mark (tokens_after first (before ++ p.span) ps) h.0
     (pieces_after first (before ++ p.span) ps) (pieces_lead first (before ++ p.span) ps rest h.1)
 
--- ---- and End after them all
+-- ---- End comes after all other tokens
 
--- the line of End is no less than that of any byte
+-- the line of End is at least the line of any byte
 end_line : (first : ℕ) (before rest : List ℕ) → 0 < length rest
     → line_after first before ≤ (end_of (excerpt first (before ++ rest))).line
 end_line first [] rest l = omega arith

@@ -1,4 +1,4 @@
--- Fronts of a text: runs, splits, and the longest span of a form.
+-- Prefixes of a text: runs, splits, and the longest span of a form.
 use Rattle.std.proofs.lemmas.{Grind.common_steps, Bool.and_parts, Bool.and_from, Bool.false≢true, List.drop_at}
 use Rattle.std.proofs.lemmas.{List.take_at, List.append-nil, List.Folds.list_all-append}
 use Rattle.std.proofs.Common.{◌≡◌, ◌≢◌, ◌+◌, ◌≤◌, ℕ, Bool, true, false, ◌&&◌, List, [], ◌∷◌, ◌++◌, length, drop, take}
@@ -10,7 +10,7 @@ use Rattle.std.proofs.Math.Bool.{and-false}
 use Rattle.cs_base.proofs.Tests.{by_test}
 use Rattle.cs_lex.specs.{inner.Front.run, Rows.Longest}
 
--- a text is a run and what ends it
+-- a text is a run, followed by the text that ends it
 pub record Split (p : ℕ → Bool) (text : List ℕ) : Type 0 where
   pub front : List ℕ
   pub after : List ℕ
@@ -19,6 +19,7 @@ pub record Split (p : ℕ → Bool) (text : List ℕ) : Type 0 where
   pub ends : begins p after ≡ false
   pub len : run p text ≡ length front
 
+-- a run with one more byte in front
 abbrev pub longer : (p : ℕ → Bool) (b : ℕ) (rest : List ℕ) → p b ≡ true → Split p rest → Split p (b ∷ rest)
 longer p b rest h s = record {
   front = b ∷ s.front;
@@ -44,7 +45,7 @@ take_run p text =
     let s = split p text in
     ap (λ x. take (run p text) x) s.whole ∙ take_at s.front s.after (run p text) (sym s.len)
 
--- a run goes on past bytes of its kind
+-- a run continues past bytes that satisfy p
 pub run_past : (p : ℕ → Bool) (xs ys : List ℕ) → list_all p xs ≡ true → run p (xs ++ ys) ≡ length xs + run p ys
 run_past p [] ys h = omega arith
 run_past p (x ∷ xs) ys h =
@@ -57,14 +58,14 @@ no_run : (p : ℕ → Bool) (ys : List ℕ) → begins p ys ≡ false → run p 
 no_run p [] h = refl
 no_run p (y ∷ ys) h = rw h refl
 
--- a run ends where a byte of another kind stands
+-- a run ends before a byte that doesn't satisfy p
 pub run_is : (p : ℕ → Bool) (xs ys : List ℕ) → list_all p xs ≡ true → begins p ys ≡ false → run p (xs ++ ys) ≡ length xs
 run_is p xs ys h k = run_past p xs ys h ∙ ap (λ n. length xs + n) (no_run p ys k)
     ∙ (let e : length xs + 0 ≡ length xs = omega arith in e)
 
 -- ---- the longest span of a form
 
--- where a byte of a kind that the form excludes follows, no longer span has the form
+-- if the next byte is one that the form excludes, no longer span has the form
 pub longest_to : (p : ℕ → Bool) (form : List ℕ → Bool) (span after : List ℕ) → form span ≡ true → begins p after ≡ false
     → ((c : ℕ) (more : List ℕ) → p c ≡ false → form (span ++ c ∷ more) ≡ false) → Longest form span after
 longest_to p form span after fits ends cut = record {
@@ -80,7 +81,7 @@ pub list_all_cut : (p : ℕ → Bool) (xs : List ℕ) (c : ℕ) (more : List ℕ
     → list_all p (xs ++ c ∷ more) ≡ false
 list_all_cut p xs c more h = list_all-append p xs (c ∷ more) ∙ (rw h (and-false (list_all p xs)))
 
--- two ways to split one text: where the first front is no longer, the second is it and more
+-- two ways to split one text: if the first prefix is no longer than the second, the second extends the first
 pub split_more : (a b c d : List ℕ) → a ++ b ≡ c ++ d → length a ≤ length c
     → (more : List ℕ) × (c ≡ a ++ more) × (b ≡ more ++ d)
 split_more [] b c d e l = (c, refl, e)
@@ -90,7 +91,7 @@ split_more (x ∷ a) b (y ∷ c) d e l = grind (arith, common_steps, split_more 
 pub by_order : {P : Type 0} (m n : ℕ) → (m ≤ n → P) → (n ≤ m → P) → P
 by_order m n f g = elim (leb_tells m n) [ inl h ↦ f h.1 | inr h ↦ g (omega arith) ]
 
--- two longest spans of one form at one text are the same
+-- two longest spans of one form in one text are the same
 pub longest_once : (form : List ℕ → Bool) (a b c d : List ℕ) → Longest form a b → Longest form c d → a ++ b ≡ c ++ d
     → a ≡ c
 longest_once form a b c d h k e = by_order (length a) (length c) (λ l. meet a b c d h k (split_more a b c d e l))
@@ -116,7 +117,7 @@ and_last : (a b : Bool) → a ≡ true → (a && b) ≡ false → b ≡ false
 and_last true b h k = k
 and_last false b h k = cc
 
--- a byte that fails a test, with what stands before and after it
+-- a byte that fails a test, with the bytes before and after it
 pub where_fails : (p : ℕ → Bool) (xs : List ℕ) → list_all p xs ≡ false
     → (before : List ℕ) × (b : ℕ) × (after : List ℕ) × (xs ≡ before ++ b ∷ after) × (p b ≡ false)
 where_fails p [] h = absurd (false≢true (sym h))

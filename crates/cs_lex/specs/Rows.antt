@@ -1,4 +1,5 @@
--- The rows of the language: what a span of a text is, with what follows it, and the faults that a text may begin with.
+-- The lexical rules: which bytes form a token or a gap, given what follows them, and which faults can occur
+-- at the start of the remaining text.
 use Rattle.std.specs.Prelude.{ℕ, Bool, true, false, List, [], ◌∷◌, ◌++◌, ◌≡◌, ◌≢◌, ◌<◌, ◌⊎◌, ◌&&◌, ◌||◌, ◌==◌, not}
 use Rattle.std.specs.Prelude.{length, codes, Option, Some, None, ℤ}
 use Rattle.std.specs.{Option.IsSomeAnd, List.list_all, Char.is_ascii_digit, Str.byte as char}
@@ -10,24 +11,24 @@ use Rattle.cs_lex.specs.Bytes.{is_quote, is_letter, is_word_byte, is_allowed, is
 use Rattle.cs_base.specs.declared.fault.OrcKind.TheVariants as orc
 use Rattle.cs_lex.specs.declared.token.Mark.TheVariants as mark
 
--- a span that has the form, where no longer span from its first byte has it
+-- a span that has the form, while no longer prefix of the text from its first byte has it
 pub record Longest (form : List ℕ → Bool) (span after : List ℕ) : Type 0 where
   pub fits : form span ≡ true
   pub stops : (more rest : List ℕ) → more ≢ [] → after ≡ more ++ rest → form (span ++ more) ≡ false
 
--- a comment that has its end: it has as many bytes as the text that begins with it says
+-- a comment that is closed: its length is `comment_len` of the text that begins with it
 pub record IsComment (span after : List ℕ) : Type 0 where
   pub begun : begins_comment (span ++ after) ≡ true
   pub ended : is_open_comment (span ++ after) ≡ false
   pub len : length span ≡ comment_len (span ++ after)
 
--- a `\` and blanks up to a line feed
+-- a `\`, followed by blanks and a line feed
 pub record IsJoin (span : List ℕ) : Type 0 where
   pub blanks : List ℕ
   pub whole : span ≡ codes "\\" ++ (blanks ++ codes "\n")
   pub blank : list_all is_blank blanks ≡ true
 
--- a letter or `_`, then letters, digits and `_`
+-- a letter or `_`, followed by letters, digits and `_`
 abbrev pub is_word : List ℕ → Bool
 is_word span = begins is_letter span && list_all is_word_byte span
 
@@ -37,18 +38,18 @@ pub record IsFullScale (text : List ℕ) : Type 0 where
   pub whole : text ≡ codes "0dbfs" ++ after
   pub ends : begins is_word_byte after ≡ false
 
--- a text begins with this decimal, which is no part of `0dbfs`
+-- a text begins with this decimal, which is not part of `0dbfs`
 pub record IsNumeral (span after : List ℕ) : Type 0 where
   pub longest : Longest is_numeral span after
   pub other : IsFullScale (span ++ after) → ⊥
 
--- a number: no letter or `_` follows, and its whole part isn't too great
+-- a number: no letter or `_` follows it, and its integer part isn't too great
 pub record IsNumber (value : ℤ) (span after : List ℕ) : Type 0 where
   pub numeral : IsNumeral span after
   pub ends : begins is_letter after ≡ false
   pub value_is : IsSomeAnd (decimal_of span) (λ d. value ≡ raw_of_decimal d)
 
--- a sign that begins no comment
+-- a sign that doesn't begin a comment
 pub record IsSign (span after : List ℕ) : Type 0 where
   pub longest : Longest is_sign span after
   pub other : begins_comment (span ++ after) ≡ false
@@ -59,7 +60,8 @@ pub record IsText (span : List ℕ) : Type 0 where
   pub whole : span ≡ codes "\"" ++ (body ++ codes "\"")
   pub plain : list_all is_text_byte body ≡ true
 
--- the rows: what a span is, with what follows it. `None` stands between tokens, and each line feed is a NewLine here
+-- the rules: the mark of a span, given what follows it. `None` is a gap between tokens, and each line feed is
+-- a NewLine
 abbrev pub Fits : Option Mark → List ℕ → List ℕ → Type 0
 Fits None span after =
     ((b : ℕ) × (is_blank b ≡ true) × (span ≡ b ∷ [])) ⊎ IsComment span after ⊎ IsJoin span
@@ -71,14 +73,15 @@ Fits (Some mark.Sign) span after = IsSign span after
 Fits (Some mark.NewLine) span after = span ≡ codes "\n"
 Fits (Some mark.End) span after = ⊥
 
--- a byte that may not stand here
+-- the text begins with a byte that is not allowed
 pub record IsBadByte (text : List ℕ) : Type 0 where
   pub byte : ℕ
   pub rest : List ℕ
   pub whole : text ≡ byte ∷ rest
   pub bad : is_allowed byte ≡ false
 
--- a byte that may not stand there, after a quotation mark and before the next one, a line feed or the end
+-- the text begins with a quotation mark, and a byte that is not allowed comes before the next quotation mark,
+-- line feed or end
 pub record HasBadByte (text : List ℕ) : Type 0 where
   pub body : List ℕ
   pub byte : ℕ
@@ -87,7 +90,7 @@ pub record HasBadByte (text : List ℕ) : Type 0 where
   pub within : list_all is_quotable body ≡ true
   pub bad : is_allowed byte ≡ false
 
--- a text that ends with its line, or with the whole text
+-- a quoted text that isn't closed before its line or the entire text ends
 pub record IsOpenText (text : List ℕ) : Type 0 where
   pub body : List ℕ
   pub after : List ℕ
@@ -95,27 +98,27 @@ pub record IsOpenText (text : List ℕ) : Type 0 where
   pub plain : list_all is_text_byte body ≡ true
   pub ends : (after ≡ []) ⊎ (begins is_feed after ≡ true)
 
--- a `\` that joins no line
+-- a `\` that doesn't join lines
 pub record IsLoneBackslash (text : List ℕ) : Type 0 where
   pub rest : List ℕ
   pub whole : text ≡ codes "\\" ++ rest
   pub joins_not : (blanks after : List ℕ) → list_all is_blank blanks ≡ true → rest ≢ blanks ++ (codes "\n" ++ after)
 
--- a byte that begins no token, comment or blank: of the allowed ones these are ' and @ and `
+-- a byte that begins no token, comment or blank: among the allowed bytes, these are ' and @ and `
 abbrev pub is_stray : ℕ → Bool
 is_stray b =
     is_allowed b
     && not (is_letter b || is_ascii_digit b || is_blank b || is_feed b || is_quote b || b == char "." || b == char ";"
     || b == char "\\" || is_short_sign b)
 
--- a stray byte, or a point without a digit after it
+-- a stray byte, or a point that no digit follows
 pub record IsStray (text : List ℕ) : Type 0 where
   pub byte : ℕ
   pub rest : List ℕ
   pub whole : text ≡ byte ∷ rest
   pub stray : (is_stray byte ≡ true) ⊎ ((byte ≡ char ".") × (begins is_ascii_digit rest ≡ false))
 
--- a number directly before a letter or `_`, or with too great a whole part
+-- a number that is directly followed by a letter or `_`, or whose integer part is too great
 pub record IsBadNumber (text : List ℕ) : Type 0 where
   pub span : List ℕ
   pub after : List ℕ
@@ -123,7 +126,7 @@ pub record IsBadNumber (text : List ℕ) : Type 0 where
   pub numeral : IsNumeral span after
   pub wrong : (begins is_letter after ≡ true) ⊎ (greatest_whole < whole_part span)
 
--- the faults that a text may begin with
+-- the faults that can occur at the start of a text
 abbrev pub IsFault : List ℕ → OrcKind → Type 0
 IsFault text orc.BadByte = IsBadByte text ⊎ HasBadByte text
 IsFault text orc.BadToken = IsStray text ⊎ IsLoneBackslash text ⊎ IsOpenText text

@@ -1,2 +1,3 @@
--- How the reader finds the piece at the front of a text. What a text reads as is said without this, in Rows and Lexed.
+-- How the reader finds the first piece of a text. The tokens of a text are defined without this, in Rows and
+-- Lexed.
 pub mod Front

@@ -1,11 +1,11 @@
-// What a byte may be, and what it may begin.
+// The bytes that are allowed, and the tokens that each may begin.
 ghost use Rattle.std.specs.{Prelude.◌≡◌, Prelude.◌==◌, Prelude.codes, List.list_any};
 ghost use Rattle.cs_lex.specs.Bytes.{is_letter, is_word_byte, is_allowed, is_short_sign, is_long_sign};
 ghost use Rattle.cs_lex.specs.inner.Front.{class_of};
 
 use cs_base::is_blank;
 
-/// What the first byte of a piece says of it.
+/// The class of a byte: the kind of token, or of separator, that it may begin.
 #[derive(Clone, Copy)]
 pub enum Class {
     Letter,
@@ -23,6 +23,7 @@ pub enum Class {
 }
 
 impl Class {
+    /// Returns the class of a byte.
     pub fn of(byte: u8) -> Class
         ensures { result ≡ class_of byte }
     {
@@ -54,33 +55,35 @@ impl Class {
     }
 }
 
+/// Whether a byte is a letter or `_`.
 pub fn is_letter(byte: u8) -> bool
     ensures { result ≡ is_letter byte }
 {
     byte.is_ascii_alphabetic() || byte == b'_'
 }
 
+/// Whether a byte is a letter, a digit or `_`.
 pub fn is_word_byte(byte: u8) -> bool
     ensures { result ≡ is_word_byte byte }
 {
     is_letter(byte) || byte.is_ascii_digit()
 }
 
-/// Whether the byte may stand outside comments.
+/// Whether a byte is allowed outside comments.
 pub fn is_allowed(byte: u8) -> bool
     ensures { result ≡ is_allowed byte }
 {
     (32 <= byte && byte <= 126) || byte == b'\t' || byte == b'\n' || byte == b'\r'
 }
 
-/// Whether the byte is a sign of the language, or one outside the profile.
+/// Whether a byte is a sign, including signs that the profile lacks.
 pub fn is_short_sign(byte: u8) -> bool
     ensures { result ≡ is_short_sign byte }
 {
     b"(),=+-*/%<>?:[]{}#$^!~&|".iter().any(|sign| byte == *sign)
 }
 
-/// Whether the two bytes are one sign.
+/// Whether the two bytes form one sign.
 pub fn is_long_sign(first: u8, second: u8) -> bool
     ensures { result ≡ is_long_sign first second }
 {

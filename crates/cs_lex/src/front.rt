@@ -1,4 +1,4 @@
-// The piece at the front of a text: its row by its first byte, and how far it runs.
+// The first piece of a text: the lexical rule that its first byte selects, and its length.
 ghost use Rattle.std.specs.Prelude.{◌≡◌, ◌<◌, ◌≤◌, ◌==◌, length, drop, IfOk};
 ghost use Rattle.std.specs.{List.list_all, Char.is_ascii_digit};
 ghost use Rattle.cs_base.specs.Lines.{is_blank, begins, begins_with};
@@ -10,7 +10,8 @@ use crate::Mark;
 use crate::class::{Class, is_allowed, is_letter, is_long_sign, is_word_byte};
 use cs_base::{OrcKind, begins_comment, comment_len, is_blank, is_open_comment, read_decimal};
 
-/// A piece of a text: a token by its mark, or what stands between tokens; and how many bytes it has.
+/// The first piece of a text: a token with its mark, or a gap between tokens (`None`), and its length in
+/// bytes.
 #[derive(Clone, Copy)]
 pub struct Front {
     pub mark: Option<Mark>,
@@ -33,7 +34,7 @@ impl Front {
         }
     }
 
-    /// The piece at the front of a text, or the fault that the text begins with.
+    /// Returns the first piece of a text, or the fault at its start.
     pub fn of(text: &[u8]) -> Result<Front, OrcKind>
         requires { 0 < length text.now }
         ensures value { result ≡ front_of text.now }
@@ -101,7 +102,7 @@ fn number(text: &[u8]) -> Result<Front, OrcKind>
     }
 }
 
-// The bytes of the decimal at the front: digits, a point, digits.
+// The length in bytes of the decimal at the start of a text: digits, a point, digits.
 fn numeral_len(text: &[u8]) -> usize
     ensures value { result ≡ numeral_len text.now }
     ensures within { result ≤ length text.now }
@@ -114,7 +115,7 @@ fn numeral_len(text: &[u8]) -> usize
     }
 }
 
-// `rest` stands after a quotation mark.
+// The quoted text whose opening quotation mark is just before `rest`.
 fn quoted(rest: &[u8]) -> Result<Front, OrcKind>
     ensures { result ≡ text_front rest.now }
 {
@@ -149,7 +150,7 @@ fn comment(text: &[u8]) -> Result<Front, OrcKind>
     Ok(Front::gap(comment_len(text)))
 }
 
-// `rest` stands after a `\`.
+// The joined line whose `\` is just before `rest`.
 fn joined(rest: &[u8]) -> Result<Front, OrcKind>
     ensures { result ≡ joined_front rest.now }
 {
@@ -206,7 +207,7 @@ fn blanks_len(text: &[u8]) -> usize
     text.iter().take_while(|byte| is_blank(**byte)).count()
 }
 
-// The bytes before the next quotation mark, line feed or end.
+// The number of bytes before the next quotation mark, line feed or end.
 fn quoted_len(text: &[u8]) -> usize
     ensures { result ≡ quoted_len text.now }
 {

@@ -1,4 +1,5 @@
-// What holds of tokens and first faults, for every text: calls that do nothing, whose contracts are the laws.
+// Properties of tokens and first faults that hold for every text: functions that do nothing, and whose
+// contracts are the laws.
 ghost use Rattle.std.specs.Prelude.{◌≡◌, ◌≢◌, ◌⊎◌, ◌≤◌, ◌++◌, ◌∷◌, [], ℕ, pos, List, length, codes};
 ghost use Rattle.std.specs.List.{All, AllPairs};
 ghost use Rattle.cs_base.specs.{Lines.Excerpt, Lines.excerpt, Lines.whole_file, declared.fault.OrcKind.OrcKind};
@@ -7,7 +8,7 @@ ghost use Rattle.cs_lex.specs.declared.token.Mark.TheVariants as mark;
 ghost use Rattle.cs_lex.specs.declared.token.Token.{Token};
 ghost use Rattle.cs_lex.specs.Lexed.{Lexed, LexFault, end_of, token_at, Precedes, IsEndedBy};
 
-/// Every text has either one list of tokens or one first fault.
+/// Every text has either exactly one list of tokens or exactly one first fault.
 pub fn one_reading()
     ensures some { (text : Excerpt) → ((tokens : List Token) × Lexed text tokens)
         ⊎ ((line : ℕ) × (kind : OrcKind) × LexFault text line kind) }
@@ -18,8 +19,8 @@ pub fn one_reading()
         → Lexed text ts → LexFault text l k → ⊥ }
 {}
 
-/// Every token's span lies in the text; tokens stand one after the other, on lines that ascend; and End is the last
-/// token and no other.
+/// Every token's span is within the text; tokens follow one another, and their line numbers never decrease;
+/// `End` is the last token and appears only there.
 pub fn tokens_stand_in_the_text()
     ensures within { (text : Excerpt) (ts : List Token) → Lexed text ts
         → All (λ t. (t.from ≤ t.to) × (t.to ≤ length text.bytes)) ts }
@@ -29,8 +30,8 @@ pub fn tokens_stand_in_the_text()
     ensures new_lines { (text : Excerpt) (ts : List Token) → Lexed text ts → AllPairs IsEndedBy ts }
 {}
 
-/// The examples of docs/LANGUAGE.md, computed: each token by its mark, the text before it and its bytes. The last two
-/// are parts of files, whose first lines are others.
+/// The examples of docs/LANGUAGE.md, computed: each token with its mark, the text before it and its bytes.
+/// The last two texts are parts of files, and don't begin on line 1.
 pub fn worked_examples()
     ensures longest_sign { Lexed (whole_file (codes "<==")) (token_at 1 mark.Sign [] (codes "<=")
         ∷ token_at 1 mark.Sign (codes "<=") (codes "=") ∷ end_of (whole_file (codes "<==")) ∷ []) }

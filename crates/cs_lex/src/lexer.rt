@@ -1,4 +1,4 @@
-// One pass over the text: piece after piece, each where the one before it ends.
+// One pass over the text, piece by piece; each piece begins at the end of the previous one.
 ghost use Rattle.std.specs.Prelude.{◌≡◌, ◌≤◌, ◌<◌, ◌+◌, ◌-◌, ◌^◌, length, IfOk, OnOk, ◌++◌, count_by};
 ghost use Rattle.cs_base.specs.declared.fault.OrcFault.{OrcFault};
 ghost use Rattle.cs_base.specs.declared.fault.Or.TheVariants as or;
@@ -11,7 +11,7 @@ use crate::{Mark, Token, Tokens};
 use cs_base::{Excerpt, Or, OrcFault, feeds};
 use std::alloc::{AllocError, Global};
 
-/// Reads an orchestra of at most 1,048,576 bytes into its tokens, or finds its first fault.
+/// Reads the tokens of an orchestra of at most 1,048,576 bytes, or returns its first fault.
 pub fn lex(alloc: Global, text: &Excerpt) -> Result<Tokens, Or<OrcFault>>
     requires { length text.now.bytes ≤ most_orchestra_bytes }
     ensures tokens { IfOk result (λ tokens. Lexed text.now tokens) }
@@ -20,7 +20,7 @@ pub fn lex(alloc: Global, text: &Excerpt) -> Result<Tokens, Or<OrcFault>>
     read(alloc, text.first_line(), text.bytes())
 }
 
-// The same of a text that begins on this line.
+// Reads the tokens of a text that begins on line `first_line`.
 fn read(alloc: Global, first_line: u32, source: &[u8]) -> Result<Tokens, Or<OrcFault>>
     requires line { first_line ≤ most_csd_bytes + 1 }
     requires small { length source.now ≤ most_orchestra_bytes }
@@ -31,7 +31,7 @@ fn read(alloc: Global, first_line: u32, source: &[u8]) -> Result<Tokens, Or<OrcF
     let mut tokens = Tokens::new(alloc);
     let mut at: usize = 0;
     let mut line = first_line;
-    // Whether a line feed, or nothing, stands before.
+    // Whether the last token was a line feed, or there is none yet.
     let mut fed = true;
     while at < source.len() {
         let text = &source[at..];
@@ -48,8 +48,8 @@ fn read(alloc: Global, first_line: u32, source: &[u8]) -> Result<Tokens, Or<OrcF
     Ok(tokens)
 }
 
-// Adds the token of a piece, but no NewLine where a line feed, or nothing, stands before. Returns whether one does
-// afterwards.
+// Adds the token of a piece, but no NewLine if the last token was a line feed or there is none (`fed`).
+// Returns the new value of `fed`.
 fn keep(
     tokens: &mut Tokens,
     fed: bool,
@@ -78,7 +78,7 @@ fn keep(
     }
 }
 
-// The line after a piece that begins on this one.
+// The line on which the text after `piece` begins, if the piece begins on `line`.
 fn line_past(line: u32, piece: &[u8]) -> u32
     requires { line + length piece.now < 2 ^ 32 }
     ensures { result ≡ line + count_by is_feed piece.now }
@@ -86,7 +86,7 @@ fn line_past(line: u32, piece: &[u8]) -> u32
     line + feeds(piece)
 }
 
-// End, where the text ends on this line.
+// The token End, if the text ends on this line.
 fn end_of(source: &[u8], line: u32) -> Token
     requires small { length source.now ≤ most_orchestra_bytes }
     requires line { count_by is_feed source.now ≤ line }

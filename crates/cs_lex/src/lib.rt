@@ -1,13 +1,14 @@
-//! Reads an orchestra's text into tokens, or refuses it at its first fault.
+//! Reads the tokens of an orchestra's text, or refuses the text at its first fault.
 //!
-//! Its one contract: the tokens that `lex` gives are those of the text, and where it gives none, the fault is the
-//! text's first. Both are said of the text as a whole, in specs/: `Lexed` and `LexFault` cut it into pieces, and `Rows`
-//! says of each piece by which row of the language it stands; blanks, line feeds and comments are cs_base's. How the
-//! reader finds the pieces (`class`, `front`, and specs/inner) may be changed without anyone above noticing.
+//! Its one contract: the tokens that `lex` returns are the tokens of the text, and a fault that it returns is
+//! the text's first fault. Both are defined in specs/ for the entire text: `Lexed` and `LexFault` cut it into
+//! pieces, and `Rows` states the lexical rule of each piece; blanks, line feeds and comments are defined in
+//! cs_base. How the reader finds the pieces (`class`, `front`, and specs/inner) may change without anyone
+//! above noticing.
 //!
-//! To be read in this order: `token` (what comes out), `lexer` (the one pass), `laws` (every text has either one list
-//! of tokens or one first fault; where tokens stand; worked examples), `front` (the piece at the front of a text, row
-//! by row), `class` (bytes).
+//! In reading order: `token` (the result), `lexer` (the one pass), `laws` (every text has either one list of
+//! tokens or one first fault; the positions of tokens; worked examples), `front` (the first piece of a text,
+//! rule by rule), `class` (bytes).
 #![tactic(auto)]
 
 mod class;

@@ -1,16 +1,16 @@
-// What a text is read into: its tokens.
+// The tokens of a text.
 use cs_base::{Items, Num};
 
-/// What a token is. Of a Number the value is kept; every other token is known by its bytes.
+/// The kind of a token. A Number has its value; every other token is identified by its bytes.
 #[derive(Clone, Copy, Debug, PartialEq, Eq)]
 pub enum Mark {
-    /// A letter or `_`, then letters, digits and `_`; also `0dbfs`.
+    /// A letter or `_`, followed by letters, digits and `_`; also `0dbfs`.
     Word,
     /// A decimal without a sign, with its value.
     Number(Num),
-    /// A quoted text of one line, its quotation marks among its bytes.
+    /// A quoted text on one line; the quotation marks belong to its bytes.
     Text,
-    /// A sign of the language, or one that stands outside the profile.
+    /// A sign, including signs that the profile lacks.
     Sign,
     /// The end of a statement: one or more line feeds.
     NewLine,
@@ -18,7 +18,8 @@ pub enum Mark {
     End,
 }
 
-/// A token: its bytes are those of the text from `from` to before `to`, and its line is one of the text's file.
+/// A token: the bytes of the text from index `from` (inclusive) to `to` (exclusive); `line` is its line in
+/// the file.
 #[derive(Clone, Copy, Debug, PartialEq, Eq)]
 pub struct Token {
     pub mark: Mark,
@@ -27,5 +28,5 @@ pub struct Token {
     pub line: u32,
 }
 
-/// The tokens of an orchestra, in order. The last is End.
+/// The tokens of an orchestra, in order. The last one is End.
 pub type Tokens = Items<Token>;

@@ -1,4 +1,4 @@
--- Typed statements that are moved: one after another, twice, and nowhere.
+-- Typed statements that are moved: one block after another, twice, and by zero.
 use Rattle.std.proofs.Common.{◌≡◌, ◌∙◌, ℕ, ◌+◌, List, [], ◌∷◌, map, arith, refl, ap}
 use Rattle.cs_base.specs.{Rates.at_rate, declared.per_rate.PerRate.PerRate, declared.resource.Rate.Rate}
 use Rattle.cs_typed.specs.TypedTree.{no_counts, counts_with, moved_variable, moved_expression, moved_argument, moved}
@@ -37,7 +37,7 @@ at_none rate.Init = refl
 at_none rate.Control = refl
 at_none rate.Audio = refl
 
--- ---- one after another
+-- ---- one block after another
 
 pub then_again : (a b c : Block) → then_block (then_block a b) c ≡ then_block a (then_block b c)
 then_again no_stmt b c = refl
@@ -101,7 +101,7 @@ module _ (a b : PerRate ℕ) where
     arms_twice (otherwise x) = ap otherwise (block_twice x)
     arms_twice (arm c x rest) = λ i. arm (expression_twice c i) (block_twice x i) (arms_twice rest i)
 
--- ---- nowhere
+-- ---- by zero
 
 variable_stays : (v : Variable) → moved_variable no_counts v ≡ v
 variable_stays (Local r n) = ap (λ k. Local r k) (ap (λ k. k + n) (at_none r) ∙ by n)

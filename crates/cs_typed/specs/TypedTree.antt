@@ -1,4 +1,4 @@
--- The typed tree of an orchestra as the definitions see it, and what the code's tree is among it.
+-- The typed tree of an orchestra as the definitions see it, and the mirror of the code's tree.
 use Rattle.std.specs.Prelude.{ℕ, ℤ, ◌+◌, List, [], ◌∷◌, ◌++◌, map, slice_index_or}
 use Rattle.std.specs.Global.{Vec}
 use Rattle.cs_base.specs.{Heads.Header, Rates.at_rate, declared.resource.Rate.Rate, declared.spaces.Spaces.Spaces}
@@ -19,8 +19,8 @@ use Rattle.cs_typed.specs.declared.tree.TypedWhat.TheVariants.{Set, Call, Choose
 use Rattle.cs_typed.specs.declared.tree.Var.TheVariants.{Local, Global}
 pub use Rattle.cs_base.specs.Heads.{header_of_head}
 
--- The typed tree as the definitions see it, without boxes' addresses and vectors' capacities. An expression has its
--- rate first.
+-- The typed tree as the definitions see it, without the addresses of boxes and the capacities of vectors. An
+-- expression has its rate first.
 pub data Expression : Type 0 where
   number : Rate → ℤ → Expression
   var : Rate → Variable → Expression
@@ -36,7 +36,8 @@ pub data Argument : Type 0 where
   value : Expression → Argument
   text : Variable → Argument
 
--- A statement, with its line and its rate. An `if` is a chain of arms, which ends with the statements after `else`.
+-- A statement, with its line and its rate. An `if` is a chain of arms, which ends with the statements after
+-- `else`.
 mutual
   pub data Statement : Type 0 where
     set : ℕ → Rate → Variable → Expression → Statement
@@ -57,7 +58,7 @@ pub record Instrument : Type 0 where
   pub numbers : List ℕ
   pub body : Block
 
--- the names of what notes share, each list in the order in which they were first seen
+-- the names of the shared variables and channels, each list in the order of first appearance
 pub record SharedNames : Type 0 where
   pub variables : PerRate (List (List ℕ))
   pub control : List (List ℕ)
@@ -71,7 +72,7 @@ pub record Orchestra : Type 0 where
   pub instrs : List Instrument
   pub globals : SharedNames
 
--- the statements of one block and then those of another
+-- the statements of two blocks, one after the other
 abbrev pub then_block : Block → Block → Block
 then_block no_stmt b = b
 then_block (andthen s rest) b = andthen s (then_block rest b)
@@ -80,21 +81,24 @@ then_block (andthen s rest) b = andthen s (then_block rest b)
 abbrev pub alone : Statement → Block
 alone s = andthen s no_stmt
 
--- STATEMENTS MOVED: with the numbers of local variables a number further on, for each rate its own.
+-- STATEMENTS MOVED: the numbers of local variables are increased by a base number, which each rate has
+-- separately.
 
--- no variables, and as many as these and those
+-- no variables
 abbrev pub no_counts : PerRate ℕ
 no_counts = record { init = 0; control = 0; audio = 0 }
 
+-- the sums of two counts, for each rate
 abbrev pub counts_with : PerRate ℕ → PerRate ℕ → PerRate ℕ
 counts_with a b =
     record { init = a.init + b.init; control = a.control + b.control; audio = a.audio + b.audio }
 
--- a variable: what notes share stays
+-- a variable moved by the base numbers; a shared one is unchanged
 abbrev pub moved_variable : PerRate ℕ → Variable → Variable
 moved_variable base (Local r n) = Local r (at_rate base r + n)
 moved_variable base (Global g) = Global g
 
+-- an expression moved by the base numbers
 abbrev pub moved_expression : PerRate ℕ → Expression → Expression
 moved_expression base (number r n) = number r n
 moved_expression base (var r v) = var r (moved_variable base v)
@@ -106,6 +110,7 @@ moved_expression base (pick r c a b) =
     pick r (moved_expression base c) (moved_expression base a) (moved_expression base b)
 moved_expression base (apply r f a) = apply r f (moved_expression base a)
 
+-- an argument moved by the base numbers
 abbrev pub moved_argument : PerRate ℕ → Argument → Argument
 moved_argument base (value e) = value (moved_expression base e)
 moved_argument base (text v) = text (moved_variable base v)
@@ -125,7 +130,7 @@ abbrev mutual
   moved_arms base (otherwise b) = otherwise (moved_block base b)
   moved_arms base (arm c b rest) = arm (moved_expression base c) (moved_block base b) (moved_arms base rest)
 
--- what the code's tree is among these
+-- the mirror of an expression in the code's tree
 abbrev pub of_part : Rate → TypedPart → Expression
 of_part r (Number v) = number r v
 of_part r (Var v) = var r v
@@ -136,19 +141,21 @@ of_part r (Pair' op p ra a q rb b) = pair r op (of_part ra a) (of_part rb b)
 of_part r (Pick' p rc c q ra a s rb b) = pick r (of_part rc c) (of_part ra a) (of_part rb b)
 of_part r (Call' f p ra a) = apply r f (of_part ra a)
 
+-- the mirror of a typed expression
 abbrev pub expression : TypedExpr → Expression
 expression e = of_part e.rate e.what
 
+-- the mirror of a typed argument
 abbrev pub argument : TypedArg → Argument
 argument (Value e) = value (expression e)
 argument (Text v) = text v
 
--- What routines do, by their places; nothing where there is none.
+-- The statements of the routine at an index; no statements if there is no such routine.
 abbrev pub routine_at : List Block → ℕ → Block
 routine_at rs k = slice_index_or rs k no_stmt
 
--- A statement of the code is one statement, or, where it invokes a routine, what that one does, its local variables
--- numbered from a base on.
+-- The mirror of a statement: one statement, or, if it invokes a routine, the statements of the routine with
+-- its local variables moved by the base numbers.
 abbrev mutual
   pub of_what : List Block → ℕ → Rate → TypedWhat → Block
   of_what rs line r (Set v e) = alone (set line r v (expression e))
@@ -165,34 +172,39 @@ abbrev mutual
   of_arms rs els (more_of-TypedArm (TypedArm' cond s body) rest) =
       arm (expression cond) (of_block rs body) (of_arms rs els rest)
 
+-- the mirror of a typed statement
 abbrev pub statement : List Block → TypedStmt → Block
 statement rs s = of_what rs s.line s.rate s.what
 
--- statements of a list
+-- the mirror of a list of statements
 abbrev pub block : List Block → List TypedStmt → Block
 block rs [] = no_stmt
 block rs (s ∷ ss) = then_block (statement rs s) (block rs ss)
 
--- arms of a list, and the statements after `else`
+-- the mirror of a list of arms, with the statements after `else`
 abbrev pub arms : List Block → Block → List TypedArm → Arms
 arms rs els [] = otherwise els
 arms rs els (a ∷ rest) =
     arm (expression (out-TypedArm a).cond) (block rs (out-TypedArm a).body.items) (arms rs els rest)
 
--- what routines do, after some others: each may invoke those in front of it
+-- the mirrors of routines, after some others: each may invoke those before it
 abbrev pub more_routines : List Block → List (Vec TypedStmt) → List Block
 more_routines rs [] = rs
 more_routines rs (r ∷ rest) = more_routines (rs ++ block rs r.items ∷ []) rest
 
+-- the mirrors of all routines
 abbrev pub routines : List (Vec TypedStmt) → List Block
 routines list = more_routines [] list
 
+-- the mirror of an instrument
 abbrev pub instrument : List Block → TypedInstr → Instrument
 instrument rs i = record { line = i.line; numbers = i.numbers; body = block rs i.body.items }
 
+-- the mirror of the names of shared variables and channels
 abbrev pub shared_names : Globals → SharedNames
 shared_names g = record { variables = g.variables; control = g.control; sound = g.sound }
 
+-- the mirror of an orchestra
 abbrev pub orchestra : TypedOrc → Orchestra
 orchestra o =
     let rs = routines o.routines.items in

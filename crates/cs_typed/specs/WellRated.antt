@@ -1,4 +1,4 @@
--- The rules of rates that a typed tree keeps.
+-- The rules of rates that every typed tree satisfies.
 use Rattle.std.specs.Prelude.{ℕ, Bool, true, false, not, List, ◌∷◌, ◌≡◌, ◌≢◌, ◌&&◌, ◌||◌, length, Option, Some, None}
 use Rattle.std.specs.{Prelude.if◌then◌else◌, List.All, List.list_all}
 use Rattle.cs_base.specs.Rates.{is_init, is_control, is_audio, within, faster, res_rate}
@@ -17,11 +17,12 @@ use Rattle.cs_words.specs.declared.word.Func.TheVariants as func
 use Rattle.cs_typed.specs.declared.tree.Var.TheVariants as var
 use Rattle.cs_typed.specs.TypedTree as typed
 
+-- the rate of a variable
 abbrev pub var_rate : Var → Rate
 var_rate (var.Local r k) = r
 var_rate (var.Global g) = res_rate g
 
--- what a statement may read or give by name: a variable, no channel
+-- a variable, which a statement may read or assign by name; not a channel
 abbrev pub is_variable : Var → Bool
 is_variable (var.Local r k) = true
 is_variable (var.Global (res.Gi k)) = true
@@ -29,12 +30,13 @@ is_variable (var.Global (res.Gk k)) = true
 is_variable (var.Global (res.Ga k)) = true
 is_variable (var.Global g) = false
 
+-- a channel
 abbrev pub is_channel : Var → Bool
 is_channel (var.Global (res.Control k)) = true
 is_channel (var.Global (res.Sound k)) = true
 is_channel _ = false
 
--- the rate beside an expression
+-- the rate of an expression
 abbrev pub node_rate : typed.Expression → Rate
 node_rate (typed.number r v) = r
 node_rate (typed.var r v) = r
@@ -45,12 +47,13 @@ node_rate (typed.pair r o a b) = r
 node_rate (typed.pick r c a b) = r
 node_rate (typed.apply r f a) = r
 
--- what the function `i` reads: a variable of the control rate
+-- an argument of the function `i`: a k-rate variable
 abbrev pub is_read_once : typed.Expression → Bool
 is_read_once (typed.var r v) = is_control r
 is_read_once _ = false
 
--- Each part of an expression has the rate of its fastest part; truth values and what `cpspch` takes are no sounds.
+-- Each part of an expression has the rate of its fastest operand; truth values and the argument of `cpspch`
+-- are not a-rate.
 abbrev pub IsRated : typed.Expression → Type 0
 IsRated (typed.number r v) = r ≡ rate.Init
 IsRated (typed.var r v) = (r ≡ var_rate v) × (is_variable v ≡ true)
@@ -71,58 +74,65 @@ abbrev pub IsRatedArgument : typed.Argument → Type 0
 IsRatedArgument (typed.value e) = IsRated e
 IsRatedArgument (typed.text v) = is_channel v ≡ true
 
--- A variable takes a value that changes no more often than itself; outside instruments it is known when the note
+-- An assigned value changes no more often than the variable; outside instruments it is known when the note
 -- begins.
 abbrev pub IsRatedSet : Setting → Rate → Var → typed.Expression → Type 0
 IsRatedSet s r v e =
     (r ≡ var_rate v) × (is_variable v ≡ true) × (within (node_rate e) r ≡ true) × ((s.inside || is_init r) ≡ true)
     × IsRated e
 
--- the row of a call's arguments: the text of `event_i` leaves no trace, and what is left is read as by `schedule`
+-- the row for a call's arguments: the text of `event_i` is left out, and the rest is checked like the
+-- arguments of `schedule`
 abbrev pub row_left : Opcode → Row
 row_left op.EventI = row_of op.Schedule
 row_left opcode = row_of opcode
 
--- the rate of an argument: a channel has none
+-- the rate of an argument; a channel has none
 abbrev pub rate_in : typed.Argument → Option Rate
 rate_in (typed.value e) = Some (node_rate e)
 rate_in (typed.text v) = None
 
--- each argument from a place on fits its letter
+-- an argument fits its letter
 abbrev pub fits_letter : Letter → Rate → typed.Argument → Bool
 fits_letter l bound a = accepts l bound (rate_in a)
 
+-- each argument, from index n on, fits its letter
 abbrev pub fit_letters : Row → Rate → ℕ → List typed.Argument → Bool
 fit_letters row bound n args = all_meet (λ l a. fits_letter l bound a) row n args
 
+-- the rate that limits the rates of the arguments
 abbrev pub bound_by : List Var → Rate
 bound_by vs = bound_from var_rate vs
 
--- a variable may take the result of a row
+-- the result of a row may be assigned to a variable
 abbrev pub may_give : Row → Var → Bool
 may_give row v = is_variable v && may_have row (var_rate v)
 
+-- more audio signals go out than the piece has channels
 abbrev pub goes_beyond : Setting → Shape → List typed.Argument → Bool
 goes_beyond s sh args = exceeds s sh args
 
--- an argument that is known when the note begins, and one that is a sound
+-- an argument that is known when the note begins
 abbrev pub keeps_still : typed.Argument → Bool
 keeps_still a = stands_still (rate_in a)
 
+-- an argument that is a-rate
 abbrev pub is_of_sound : typed.Argument → Bool
 is_of_sound a = sounds (rate_in a)
 
+-- the two arguments of a table store are both a-rate, or neither is
 abbrev pub stores_evenly : Shape → List typed.Argument → Bool
 stores_evenly sh args = are_even rate_in sh args
 
+-- the rate at which a call runs
 abbrev pub done_at : Shape → List Var → List typed.Argument → Rate
 done_at sh vs args = rate_of_call var_rate rate_in sh vs args
 
--- whether both are sounds, or neither
+-- whether both rates are the a-rate, or neither is
 abbrev pub both_sound : Rate → Rate → Bool
 both_sound r s = if is_audio r then is_audio s else not (is_audio s)
 
--- a channel of sounds gives and takes sounds, any other gives and takes what is held
+-- an audio channel is read and written at the a-rate, and any other channel at a lower rate
 abbrev pub suits_channel : Shape → List Var → List typed.Argument → Bool
 suits_channel shape.ChannelGet (v ∷ vs) (typed.text c ∷ rest) = both_sound (var_rate v) (var_rate c)
 suits_channel shape.ChannelPut vs (typed.value e ∷ typed.text c ∷ rest) = both_sound (node_rate e) (var_rate c)
@@ -149,8 +159,8 @@ abbrev pub all_still : typed.Arms → Bool
 all_still (typed.otherwise b) = true
 all_still (typed.arm c b rest) = is_init (node_rate c) && all_still rest
 
--- Statements agree with the rules of rates. An `if` is done once exactly where all its conditions are known when the
--- note begins.
+-- Statements agree with the rules of rates. An `if` runs once if and only if all its conditions are known
+-- when the note begins.
 abbrev mutual
   pub IsRatedStatement : Setting → typed.Statement → Type 0
   IsRatedStatement s (typed.set line r v e) = IsRatedSet s r v e
@@ -173,7 +183,7 @@ pub record IsWellRated (o : typed.Orchestra) : Type 0 where
   pub zero : IsRatedBlock (outside o.head.nchnls) o.zero
   pub instrs : All (λ (i : typed.Instrument). IsRatedBlock (inside o.head.nchnls) i.body) o.instrs
 
--- no `zakinit` among statements
+-- there is no `zakinit` among the statements
 abbrev mutual
   pub HasNoZakinit : typed.Statement → Type 0
   HasNoZakinit (typed.set line r v e) = Unit {0}

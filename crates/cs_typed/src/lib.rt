@@ -1,14 +1,15 @@
-//! The typed tree of an orchestra: variables in place of names, opcodes in place of opcodes' names, and a rate beside
-//! each expression and each statement.
+//! The typed tree of an orchestra: variables instead of names, opcodes instead of opcode names, and a rate
+//! for each expression and each statement.
 //!
-//! It is what the reading of an orchestra makes and what the code of notes is made from, so that either is built and
-//! proved without the other. What a defined opcode does stands in it once, as a routine that statements invoke, and
-//! `Var::moved`, its one call, says which of the caller's variables those of the routine are; the tree as the
-//! definitions see it has what the routine does in their place. That tree stands in specs/TypedTree.antt, the rules of
-//! rates that it keeps in specs/WellRated.antt (`IsWellRated`), and what holds of each of its variables in
-//! specs/Variables.antt. A further part of the tree changes both sides.
+//! The layers that read an orchestra produce it and the code of notes is made from it, so that either can be
+//! built and proved without the other. Each user-defined opcode is one routine, which statements invoke, and
+//! `Var::moved`, the tree's one call, maps the variables of the routine to variables of the caller; the tree
+//! as the definitions see it has the statements of the routine in the place of each invocation.
+//! specs/TypedTree.antt defines that tree, specs/WellRated.antt the rules of rates that it satisfies
+//! (`IsWellRated`), and specs/Variables.antt properties of each of its variables. Adding a form to the tree
+//! changes both sides.
 //!
-//! Modules in reading order: `tree`, `setting` (where a statement stands).
+//! Modules in reading order: `tree`, `setting` (the context of a statement).
 #![tactic(auto)]
 
 mod setting;

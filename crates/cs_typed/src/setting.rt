@@ -1,6 +1,6 @@
-// Where a statement stands.
+// The context of a statement.
 
-/// Where a statement stands: inside an instrument or outside of all, and how many channels the piece has.
+/// The context of a statement: whether it is inside an instrument, and the number of channels of the piece.
 #[derive(Clone, Copy)]
 pub struct Setting {
     pub inside: bool,

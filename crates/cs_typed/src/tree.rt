@@ -1,11 +1,12 @@
-// The typed tree of an orchestra: what the layers above read in place of names and opcodes' names.
+// The typed tree of an orchestra, which the layers above read instead of names and opcode names.
 ghost use Rattle.std.specs.Prelude.{◌≡◌, IfOk};
 ghost use Rattle.cs_typed.specs.TypedTree.{moved_variable};
 
 use cs_base::{Head, Items, Names, Num, Numbers, OutOfMemory, PerRate, Rate, Res, Spaces};
 use cs_words::{BinOp, Func, HeadName, Opcode};
 
-/// A variable: one of the note's own, by its rate and its number among the names of that rate; or what notes share.
+/// A variable: a local one, with its rate and its number among the local variables of that rate; or a shared
+/// one.
 #[derive(Clone, Copy, PartialEq, Eq)]
 pub enum Var {
     Local(Rate, usize),
@@ -13,9 +14,9 @@ pub enum Var {
 }
 
 impl Var {
-    /// A variable of a routine as it stands in a body that has `base` numbers of each rate in front of it. A number
-    /// that doesn't fit is reported as out of memory; none is met, since an expanded body has at most
-    /// `MOST_STATEMENTS` statements.
+    /// Returns this variable of a routine with its number in a body that has `base` other variables of each
+    /// rate before it; a shared variable is unchanged. A number that doesn't fit is reported as out of
+    /// memory; this never happens, since an expanded body has at most `MOST_STATEMENTS` statements.
     pub fn moved(self, base: PerRate<usize>) -> Result<Var, OutOfMemory>
         ensures { IfOk result (λ v. v ≡ moved_variable base self) }
     {
@@ -29,9 +30,10 @@ impl Var {
     }
 }
 
+/// Variables, in order.
 pub type Vars = Items<Var>;
 
-/// An expression, and how often its value changes.
+/// An expression, with the rate at which its value changes.
 #[derive(Drop)]
 #[cycle(expr)]
 pub struct TypedExpr {
@@ -39,33 +41,34 @@ pub struct TypedExpr {
     pub what: TypedPart,
 }
 
-/// What an expression is.
+/// The form of an expression.
 #[derive(Drop)]
 #[cycle(expr)]
 pub enum TypedPart {
     Number(Num),
     Var(Var),
-    /// `p1` to `p100`, by its number.
+    /// `p1` to `p100`, with its number.
     Field(u32),
     Head(HeadName),
     Neg(Box<TypedExpr>),
     Pair(BinOp, Box<TypedExpr>, Box<TypedExpr>),
-    /// Condition, value where it holds, value where it doesn't.
+    /// A condition, the value if it is true, and the value if it is false.
     Pick(Box<TypedExpr>, Box<TypedExpr>, Box<TypedExpr>),
     Call(Func, Box<TypedExpr>),
 }
 
-/// An argument of a call: a value, or the channel that a text names. The text of `event_i` leaves no trace.
+/// An argument of a call: a value, or the channel that a text names. The text of `event_i` is left out.
 #[derive(Drop)]
 pub enum TypedArg {
     Value(TypedExpr),
     Text(Var),
 }
 
+/// The arguments of a call.
 pub type TypedArgs = Vec<TypedArg>;
 
-/// A statement, with the line of its first token and its rate: a statement of rate `Init` is done once, as the note
-/// begins.
+/// A statement, with the line of its first token and its rate: a statement of rate `Init` runs once, when the
+/// note begins.
 #[derive(Drop)]
 #[cycle(stmt)]
 pub struct TypedStmt {
@@ -74,22 +77,23 @@ pub struct TypedStmt {
     pub what: TypedWhat,
 }
 
+/// Statements, in order.
 pub type TypedStmts = Vec<TypedStmt>;
 
-/// What a statement does.
+/// The form of a statement.
 #[derive(Drop)]
 #[cycle(stmt)]
 pub enum TypedWhat {
     Set(Var, TypedExpr),
-    /// Results, opcode, arguments.
+    /// The results, the opcode, and the arguments.
     Call(Vars, Opcode, TypedArgs),
     /// The arms of `if` and `elseif`, and the statements after `else`.
     Choose(TypedArms, TypedStmts),
-    /// What the routine at a place does, its local variables numbered from these numbers on.
+    /// The index of a routine, whose statements run with its local variables moved by these base numbers.
     Invoke(usize, PerRate<usize>),
 }
 
-/// A condition, and the statements that are done where it is the first that holds.
+/// A condition, and the statements that run if it is the first true one.
 #[derive(Drop)]
 #[cycle(stmt)]
 pub struct TypedArm {
@@ -97,6 +101,7 @@ pub struct TypedArm {
     pub body: Vec<TypedStmt>,
 }
 
+/// The arms of an `if`, in order.
 pub type TypedArms = Vec<TypedArm>;
 
 /// An instrument, with the line of its `instr` and its numbers.
@@ -107,8 +112,8 @@ pub struct TypedInstr {
     pub body: TypedStmts,
 }
 
-/// The names of what notes share, each list in the order in which they were first seen: variables, control channels and
-/// sound channels.
+/// The names of the shared variables, k-rate channels and audio channels, each list in the order of first
+/// appearance.
 #[derive(Drop)]
 pub struct Globals {
     pub variables: PerRate<Names>,
@@ -125,8 +130,8 @@ pub struct TypedOrc {
     /// The statements outside instruments.
     pub zero: TypedStmts,
     pub instrs: Vec<TypedInstr>,
-    /// What its statements invoke: what each defined opcode does that is called, its local variables numbered from 0.
-    /// A routine invokes those in front of it alone.
+    /// The routines that statements invoke: one for each user-defined opcode that is called, with its local
+    /// variables numbered from 0. A routine invokes only those before it.
     pub routines: Vec<TypedStmts>,
     pub globals: Globals,
 }

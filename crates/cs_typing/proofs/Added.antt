@@ -1,4 +1,4 @@
--- A table with one more name: what it has of others, where they stand, and how many there are.
+-- A table with one more name: whether it has other names, at which numbers, and how many names there are.
 use Rattle.std.proofs.Common.{◌≡◌, ◌∙◌, ℕ, suc, Bool, true, false, ◌||◌, if◌then◌else◌, List, [], ◌∷◌, ◌++◌, length}
 use Rattle.std.proofs.Common.{length-append, arith, refl, ap}
 use Rattle.std.specs.Str.{bytes_eq}
@@ -10,7 +10,7 @@ use Rattle.cs_typing.specs.Known.{RateNames, counts_of, of_rate, with_name, in_t
 use Rattle.cs_typing.specs.inner.Routines.{counted}
 use Rattle.cs_base.specs.declared.resource.Rate.TheVariants as rate
 
--- two names that are told apart
+-- two different names are not equal as bytes
 pub differ : (x y : List ℕ) → (x ≡ y → ⊥) → bytes_eq x y ≡ false
 differ x y h = false_from_ne_true (bytes_eq x y) (λ e. h ((bytes_eq-Decides x y).0 e))
 
@@ -35,7 +35,7 @@ with_other q r t x y h = refl
 pub added_other : (t : RateNames) (x y : List ℕ) → (y ≡ x → ⊥) → in_table (added t x) y ≡ in_table t y
 added_other t x y h = with_other (name_rate x) (name_rate y) t x y h
 
--- ---- a name that is there
+-- ---- a name that the table has
 
 pub seen_there : (xs : List (List ℕ)) (x : List ℕ) → has xs x ≡ true → seen xs x ≡ xs
 seen_there xs x h = ap (λ b. if b then xs else xs ++ x ∷ []) h
@@ -48,7 +48,7 @@ with_there rate.Audio t x h = λ i. record { init = t.init; control = t.control;
 pub added_there : (t : RateNames) (x : List ℕ) → in_table t x ≡ true → added t x ≡ t
 added_there t x h = with_there (name_rate x) t x h
 
--- ---- a name that is new
+-- ---- a new name
 
 seen_new : (xs : List (List ℕ)) (x : List ℕ) → has xs x ≡ false → length (seen xs x) ≡ suc (length xs)
 seen_new xs x h =

@@ -3,7 +3,7 @@ use Rattle.std.proofs.Common.{◌≡◌, ◌∙◌, ◌+◌, ◌<◌, ◌&&◌, 
 use Rattle.cs_grammar.specs.{declared.tree.Arg.Arg, Tree.Argument, Tree.argument}
 use Rattle.cs_udo.proofs.Places.{dropped}
 
--- what the test of the first and the rest say is what the whole says
+-- the test of the first argument and the test of the rest together are the test of all
 pub all_next : (f : List Argument → Bool) (args : List Arg) (i : ℕ) (a : Arg) (test rest b whole : Bool)
     → i < length args → a ≡ get_or args i a → f (argument a ∷ map argument (drop (i + 1) args)) ≡ (test && rest)
     → test ≡ b → f (map argument (drop i args)) ≡ whole → (b && rest) ≡ whole

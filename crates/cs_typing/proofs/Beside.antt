@@ -1,5 +1,5 @@
--- What stands beside the routine of a call, one after another: functions of two lists, names or rates with arguments,
--- and of the rests of both.
+-- The assignments around the routine of a call, one after another: functions of two lists, names or rates
+-- with arguments, and of the rests of both lists.
 use Rattle.std.proofs.Common.{◌≡◌, ◌∙◌, ◌+◌, ◌<◌, ◌≤◌, ◌⊎◌, inl, inr, ◌++◌, ℕ, min, drop, get_or, List, [], ◌∷◌, length}
 use Rattle.std.proofs.Common.{map, Option, None, arith, refl, sym, ap, subst}
 use Rattle.std.specs.Option.{option_or}
@@ -25,7 +25,7 @@ use Rattle.cs_udo.proofs.Places.{dropped}
 use Rattle.cs_typing.proofs.{Answers.fault_on, Joined.then_nothing}
 use Rattle.cs_typed.specs.TypedTree as typed
 
--- a function of names and arguments, on both rests where each has a next
+-- a function of names and arguments, applied to both rests if each has a next item
 pub both_next : {X R : Type 0} (f : List X → List Argument → R) (xs : List X) (as' : List Arg) (i : ℕ) (x : X) (a : Arg)
     (e : Expr) → i < length xs → x ≡ get_or xs i x → i < length as' → a ≡ get_or as' i a → a ≡ Value e
     → f (drop i xs) (map argument (drop i as'))
@@ -35,7 +35,7 @@ both_next f xs as' i x a e l p m q k =
     ∙ ap (λ ys. f (x ∷ drop (i + 1) xs) (map argument ys)) (dropped as' i a m q)
     ∙ ap (λ y. f (x ∷ drop (i + 1) xs) (argument y ∷ map argument (drop (i + 1) as'))) k
 
--- A function that ends with what it says where no name is left, no argument, or no value.
+-- A function that has the result r if no name is left, no argument is left, or the next argument is no value.
 pub record Ends (X R : Type 0) (f : List X → List Argument → R) (r : R) : Type 0 where
   pub none : (as' : List Argument) → f [] as' ≡ r
   pub last : (x : X) (xs : List X) → f (x ∷ xs) [] ≡ r
@@ -67,21 +67,23 @@ at_word X R f r ends xs as' i a t m q k =
     no_value [] = ends.none (text t ∷ map argument (drop (i + 1) as'))
     no_value (y ∷ ys) = ends.word y ys t (map argument (drop (i + 1) as'))
 
--- a place within two lists, where a count runs to the lesser of the lengths of their copies
+-- an index within two lists, if a count runs up to the smaller length of their copies
 pub in_both : {X Y : Type 0} {ys : List X} {n end : ℕ} (xs : List X) (as' : List Y) (i : ℕ) → end ≡ min (length ys) n
     → ys ≡ xs → n ≡ length as' → i < end → i < min (length xs) (length as')
 in_both xs as' i e same count h = subst (λ m. i < m) (e ∙ λ j. min (length (same j)) (count j)) h
 
--- a place past the end of one of them
+-- an index beyond the end of one of them
 pub past_both : {X Y : Type 0} {ys : List X} {n end : ℕ} (xs : List X) (as' : List Y) (i : ℕ) → end ≡ min (length ys) n
     → ys ≡ xs → n ≡ length as' → end ≤ i → min (length xs) (length as') ≤ i
 past_both xs as' i e same count h = subst (λ m. m ≤ i) (e ∙ λ j. min (length (same j)) (count j)) h
 
--- ---- what is judged and made of names or rates with arguments
+-- ---- the faults and typed forms of names or rates with arguments
 
+-- the fault and the typed form of the inputs
 abbrev pub InputsMade : Type 0
 InputsMade = Option OrcFault × typed.Block
 
+-- the fault and the typed form of the assignments to inputs
 abbrev pub inputs_made : Setting → KnownInBody → Locals → ℕ → List (List ℕ) → List Argument → InputsMade
 inputs_made s k first line xs as' = (inputs_fault s k line xs as', given_set k first line xs as')
 
@@ -89,9 +91,11 @@ pub inputs_end : (s : Setting) (k : KnownInBody) (first : Locals) (line : ℕ)
     → Ends (List ℕ) InputsMade (inputs_made s k first line) (None, typed.no_stmt)
 inputs_end s k first line = record { none = λ as'. refl; last = λ x xs. refl; word = λ x xs t as'. refl }
 
+-- the fault, the typed form, the local variables and the numbers of slots
 abbrev pub SlotsMade : Type 0
 SlotsMade = Option OrcFault × typed.Block × Locals × List ℕ
 
+-- the results of the assignments to slots
 abbrev pub slots_made : Setting → KnownInBody → ℕ → List Rate → List Argument → SlotsMade
 slots_made s k line rs as' = (
   slots_fault s k line rs as',
@@ -100,6 +104,7 @@ slots_made s k line rs as' = (
   slot_numbers k.locals.counts rs as',
 )
 
+-- the results without slots
 abbrev pub no_slots : KnownInBody → SlotsMade
 no_slots k = (None, typed.no_stmt, k.locals, [])
 
@@ -108,32 +113,32 @@ slots_end s k line = record { none = λ as'. refl; last = λ x xs. refl; word = 
 
 -- ---- statements that were added
 
--- one statement was added: those to come stand behind it
+-- one statement was added: the remaining ones come after it
 pub added_one : (rs : List typed.Block) (old new : List TypedStmt) (one rest : typed.Block)
     → typed.block rs new ≡ typed.then_block (typed.block rs old) one → typed.then_block (typed.block rs new) rest
     ≡ typed.then_block (typed.block rs old) (typed.then_block one rest)
 added_one rs old new one rest is =
     ap (λ b. typed.then_block b rest) is ∙ then_again (typed.block rs old) one rest
 
--- none is left to add
+-- no statement is left to add
 pub none_left : (rs : List typed.Block) (new : List TypedStmt) (rest all : typed.Block) → rest ≡ typed.no_stmt
     → typed.then_block (typed.block rs new) rest ≡ all → typed.block rs new ≡ all
 none_left rs new rest all none is =
     sym (then_nothing (typed.block rs new)) ∙ sym (ap (λ b. typed.then_block (typed.block rs new) b) none) ∙ is
 
--- ---- the rest says what the whole says, where the first breaks no rule
+-- ---- the rest has the same fault as the whole, if the first item breaks no rule
 
 pub fault_next : (first here next whole : Option OrcFault) → here ≡ option_or first next → first ≡ None → here ≡ whole
     → next ≡ whole
 fault_next first here next whole split none was = sym (ap (λ f. option_or f next) none) ∙ sym split ∙ was
 
--- the fault of the first is that of the whole
+-- the fault of the first item is the fault of the whole
 pub fault_first : (e : Or OrcFault) (first here next whole : Option OrcFault) → HasFault e first
     → here ≡ option_or first next → here ≡ whole → HasFault e whole
 fault_first e first here next whole is split was =
     fault_on e first whole is (λ f h. sym was ∙ split ∙ ap (λ o. option_or o next) h)
 
--- one statement was added, as the first that was left to add
+-- one statement was added: the first of those that were left to add
 pub made_next : (rs : List typed.Block) (old new : List TypedStmt) (is form : typed.Statement)
     (here next whole : typed.Block) → Adds old new (typed.alone is) → is ≡ form → here ≡ typed.andthen form next
     → typed.then_block (typed.block rs old) here ≡ whole → typed.then_block (typed.block rs new) next ≡ whole
@@ -153,7 +158,7 @@ module _ (s : Setting) (line : ℕ) where
       × (known_in n.shared (slots_past n.locals rs as') ≡ known)
       × (slots ++ slot_numbers n.locals.counts rs as' ≡ numbers)
 
-  -- where none is left
+  -- no slot is left
   pub slots_done : (k : KnownInBody) (old : List TypedStmt) (before : List ℕ) (rs : List Rate) (as' : List Argument)
       → slots_made s k line rs as' ≡ no_slots k
       → (fault : Option OrcFault) (made : List typed.Block → typed.Block) (known : KnownInBody) (numbers : List ℕ)
@@ -166,7 +171,7 @@ module _ (s : Setting) (line : ℕ) where
     sym (append-nil before) ∙ sym (ap (λ x. before ++ x.3) none) ∙ was.3,
   )
 
--- one slot's fault
+-- the fault of one slot
 
 pub slot_fault : (s : Setting) (k : KnownInBody) (line : ℕ) (outs rates : List Rate) (args : List Arg) (i : ℕ)
     (d : Rate) (a : Arg) (e : Expr) (x : Or OrcFault) (whole : Option OrcFault)
@@ -180,7 +185,7 @@ slot_fault s k line outs rates args i d a e x whole front back same q v is was =
     fault_first x _ _ _ whole is (both_next (slots_fault s k line) outs args i (get_or rates i d) a e front p back q v)
     was
 
--- one slot more
+-- one more slot
 
 module _ (s : Setting) (k m : KnownInBody) (line : ℕ) (outs rates : List Rate) (args : List Arg) (i : ℕ) (d : Rate)
     (a : Arg) (e : Expr) (old new : List TypedStmt) (before after : List ℕ) (number : ℕ) where
@@ -217,13 +222,13 @@ module _ (s : Setting) (k m : KnownInBody) (line : ℕ) (outs rates : List Rate)
             ∙ sym (ap (λ x. before ++ x.3) next) ∙ was.3,
       )
 
--- what is left of a list that is another
+-- the rest of a list that equals another list
 pub shifted : (rates outs : List Rate) (i : ℕ) (d : Rate) → rates ≡ outs → i < length rates
     → drop i outs ≡ get_or rates i d ∷ drop (i + 1) outs
 shifted rates outs i d same low =
     sym (ap (λ ys. drop i ys) same) ∙ drop_more rates i d low ∙ ap (λ ys. get_or rates i d ∷ drop (i + 1) ys) same
 
--- ---- one result more
+-- ---- one more result
 
 nothing_judged : (s : Setting) (line : ℕ) (ys : List (List ℕ)) → taken_fault s line ys [] ≡ None
 nothing_judged s line [] = refl
@@ -247,7 +252,7 @@ module _ (s : Setting) (k m : KnownInBody) (base : PerRate ℕ) (line : ℕ) (xs
   taken_form r n =
       typed.set line (name_rate x) (variable_in k x) (typed.var r (Local r (at_rate base r + n)))
 
-  -- one that has a slot
+  -- a result that has a slot
   pub one_taken : (r : Rate) (n : ℕ) → drop i xs ≡ x ∷ drop (i + 1) xs → drop i outs ≡ r ∷ drop (i + 1) outs
       → drop i slots ≡ n ∷ drop (i + 1) slots
       → at line (taken_kind s x r) ≡ None → Adds old new (typed.alone (taken_form r n))
@@ -265,7 +270,7 @@ module _ (s : Setting) (k m : KnownInBody) (base : PerRate ℕ) (line : ℕ) (xs
         ∙ sym (ap (λ ys. known_in k.shared (all_given_in k.locals ys)) p) ∙ was.2,
   )
 
-  -- one that has none
+  -- a result that has none
   pub none_taken : drop i xs ≡ x ∷ drop (i + 1) xs → length outs ≤ i → new ≡ old
       → m ≡ known_in k.shared (given_in k.locals x)
       → (fault : Option OrcFault) (made : List typed.Block → typed.Block) (known : KnownInBody)

@@ -1,4 +1,5 @@
--- What is known of defined opcodes in two ways: the same ones are defined, and what is known of each is related.
+-- Data about user-defined opcodes in two forms: the same opcodes are defined in both, and R relates the two
+-- items of each.
 use Rattle.std.proofs.Common.{ℕ, Bool, true, false, if◌then◌else◌, List, Option, Some, None}
 use Rattle.std.specs.{Option.option_or, Str.bytes_eq}
 use Rattle.cs_grammar.specs.Tree.{Definition}
@@ -11,7 +12,7 @@ module _ {A B : Type 0} (R : A → B → Type 0) where
   Both (Some a) None = ⊥
   Both (Some a) (Some b) = R a b
 
-  -- with one definition more
+  -- with one more definition
   pub both_more : (item : ByName A → Definition → A) (other : ByName B → Definition → B) (env : ByName A)
       (env' : ByName B) → ((name : List ℕ) → Both (env name) (env' name)) → (d : Definition)
       → R (item env d) (other env' d) → (name : List ℕ) → Both (with_item item env d name) (with_item other env' d name)

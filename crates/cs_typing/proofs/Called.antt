@@ -1,4 +1,4 @@
--- A call of a defined opcode, from what stands beside its routine.
+-- A call of a user-defined opcode, from the assignments around its routine.
 use Rattle.std.proofs.Common.{◌≡◌, ◌∙◌, ◌<◌, ◌++◌, ℕ, List, Some, None, length, map, sym, ap}
 use Rattle.std.specs.Option.{option_or}
 use Rattle.cs_base.specs.declared.fault.OrcFault.{OrcFault}
@@ -24,7 +24,7 @@ module _ (ds : List Definition) (place : ℕ) (d : Definition) (well : WellForme
 
   -- ---- the first rule that it breaks
 
-  -- where its inputs and its body break none, it is that of its results
+  -- if its inputs and its body break no rule, its fault is the fault of its results
   pub call_judged : (c : Callee) → inputs_fault s k line d.names args ≡ None → r.fault s k.shared ≡ None
       → taken_fault s line xs d.outs ≡ call_fault_in s k line xs c args (Some r)
   call_judged c inputs body =
@@ -33,7 +33,7 @@ module _ (ds : List Definition) (place : ℕ) (d : Definition) (well : WellForme
       ∙ ap (λ f. option_or f (results_fault s (r.shared k.shared) r line xs r.results)) body
       ∙ call_results_fault rs d well s (r.shared k.shared) line xs)
 
-  -- a fault of its inputs, or of its body where they have none
+  -- a fault of its inputs, or of its body if the inputs have none
   pub inputs_break : (c : Callee) (f : OrcFault) → inputs_fault s k line d.names args ≡ Some f
       → call_fault_in s k line xs c args (Some r) ≡ Some f
   inputs_break c f e =

@@ -11,12 +11,13 @@ use Rattle.cs_typing.specs.{Known.Shared, Known.channel_of, declared.known.Chann
 use Rattle.cs_words.specs.declared.catalogue.Opcode.TheVariants as op
 use Rattle.cs_typed.specs.TypedTree as typed
 
--- each text among arguments is this
+-- each text among the arguments is t
 abbrev pub TextsAre : List ℕ → List Argument → Type 0
 TextsAre t [] = Unit {0}
 TextsAre t (value e ∷ args) = TextsAre t args
 TextsAre t (text u ∷ args) = (u ≡ t) × TextsAre t args
 
+-- a call that uses a channel has one text
 abbrev pub OneText : Option Channel → List Argument → Type 0
 OneText None args = Unit {0}
 OneText (Some kind) args = TextsAre (text_of args) args
@@ -72,7 +73,7 @@ one_text op.Chnclear b results (text t ∷ []) c f = (refl, tt)
 one_text op.Chnclear b results (text t ∷ a ∷ rest) c f = no_second (length rest) c
 one_text o b results args c f = tt
 
--- arguments whose one text is the same channel by two lists of channels
+-- two lists of channels that have the same channel for a name yield the same arguments
 pub texts_same : (g h : Shared) (v : Variables) (kind : Channel) (t : List ℕ)
     → channel_of h kind t ≡ channel_of g kind t
     → (args : List Argument) → TextsAre t args → arguments_by h v (Some kind) args ≡ arguments_by g v (Some kind) args

@@ -1,4 +1,4 @@
--- Statements cut at the line of an instrument, and the parts of an orchestra one after the other.
+-- Statements cut at the line of an instrument, and the parts of an orchestra, one after another.
 use Rattle.std.proofs.Common.{◌≡◌, ◌∙◌, ◌+◌, ◌<◌, ℕ, suc, Bool, true, false, List, [], ◌∷◌, map, take, drop, cond}
 use Rattle.std.proofs.Common.{length, nat_lt, get_or, if◌then◌else◌, refl, sym, ap, arith}
 use Rattle.std.specs.List.{prefix_len}
@@ -51,7 +51,7 @@ from_is line (s ∷ ss) =
         ap (λ j. tree.block (drop j (s ∷ ss))) more ∙ e
     by false e = refl
 
--- the parts from an instrument on: the statements in front of it, the instrument, and the parts behind it
+-- the parts from an instrument on: the statements before it, the instrument, and the parts after it
 pub cut : (stmts front back : List OrcStmt) (list : List Instr) (k : ℕ) (i : Instr) (n : ℕ) → k < length list
     → i ≡ get_or list k i
     → n ≡ prefix_len (λ s. nat_lt s.line i.line) stmts → front ≡ take n stmts → back ≡ drop n stmts

@@ -1,4 +1,4 @@
--- The whole orchestra: what its parts answer, put together, and that it is the answer for the expanded text.
+-- The entire orchestra: the results of its parts together are the result for the expanded text.
 use Rattle.std.proofs.Common.{◌≡◌, ◌∙◌, ℕ, List, [], ◌++◌, map, Option, Some, None, Result, Ok, Err, IfOk, OnOk, sym}
 use Rattle.std.proofs.Common.{ap, subst}
 use Rattle.std.specs.Option.{option_or}
@@ -20,7 +20,7 @@ use Rattle.cs_base.specs.declared.fault.Or.TheVariants as or
 use Rattle.cs_grammar.specs.Tree as tree
 use Rattle.cs_typed.specs.TypedTree as typed
 
--- ---- the parts of an expansion, as they are lent
+-- ---- the parts of an expansion, as they are borrowed
 
 module _ (e : Expansion) (ready : IsReady e) (zero : List OrcStmt) (instrs : List Instr)
     (z : zero ≡ e.orc.now.zero.items) (s : instrs ≡ e.orc.now.instrs.items) where
@@ -93,7 +93,7 @@ module _ (e : Expansion) (ready : IsReady e) (lines : List HeadLine) (zero : Lis
         ∙ sym (orchestra_forms (tree.orchestra e.orc.now) ready.well_formed e.fine
         (ap (λ n. statements_fault n (tree.orchestra e.orc.now)) (sym channels) ∙ free))
 
--- ---- what an answer says
+-- ---- consequences of a result
 
 abbrev error_of : Or OrcFault → Result TypedOrc (Or OrcFault) → Or OrcFault
 error_of e (Ok t) = e

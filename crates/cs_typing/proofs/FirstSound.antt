@@ -1,4 +1,4 @@
--- Before anything is judged no definition is typed, and no channel is used.
+-- Before anything is checked, no definition has been typed, and no channel is used.
 use Rattle.std.proofs.Common.{◌≡◌, ◌∙◌, ℕ, List, [], length, replicate, slice_get, Option, Some, None, arith, sym, ap}
 use Rattle.std.proofs.Common.{subst}
 use Rattle.std.specs.List.{All}
@@ -13,7 +13,7 @@ use Rattle.cs_typing.specs.declared.routines.RoutineTable.{RoutineTable}
 use Rattle.cs_typing.specs.declared.routines.TypedDefinition.{TypedDefinition}
 use Rattle.cs_grammar.specs.Tree as tree
 
--- what stands in a list of one value is that value
+-- every item of a list that repeats one value is that value
 pub replicated : {A : Type 0} (n k : ℕ) (x y : A) → slice_get (replicate n x) k ≡ Some y → x ≡ y
 replicated {A} n k x y e =
     let inside = slice_get_within (replicate n x) k y e in
@@ -33,7 +33,7 @@ first_sound channels ds g t n fit long marks none = record {
   apart = λ x h. absurd (cc (sym (ap (λ l. has l x) none) ∙ h));
 }
 
--- so it is where an orchestra is begun
+-- so the invariant holds at the beginning of an orchestra
 pub begun_sound : (e : Expansion) → IsReady e → (channels : ℕ) (names : KnownNames) (t : RoutineTable) (n : ℕ)
     → known_of names ≡ begun (tree.orchestra e.orc.now) → length e.library.definitions.now ≡ n
     → t.by_definition.items ≡ replicate n None → AreTyped channels (definitions_of e.library) names.shared t

@@ -1,4 +1,5 @@
--- Which names a called opcode gives, by the places of definitions; and what each definition's mark says.
+-- The names that a called opcode assigns, by the index of its definition; and the meaning of each
+-- definition's mark.
 use Rattle.std.proofs.Common.{◌≡◌, ◌∙◌, ℕ, zero, suc, Bool, true, List, [], ◌∷◌, ◌++◌, length, set, slice_get, map}
 use Rattle.std.proofs.Common.{Some, None, refl, sym, ap, subst, ◌≢◌, ⊎_elim, false, replicate}
 use Rattle.std.proofs.lemmas.{List.append_assoc, List.length-replicate, List.length-set, Bool.cases_eq}
@@ -20,7 +21,7 @@ use Rattle.cs_typing.proofs.{FirstSound.replicated, RoutineBlocks.no_first, Rout
 use Rattle.cs_grammar.specs.declared.tree.Callee.TheVariants as callee
 use Rattle.cs_grammar.specs.Tree as tree
 
--- what is called, by what the library finds
+-- the called opcode, by the library's result
 pub giver_unfound : (ds : List Definition) (visible : ℕ) (c : Callee) → IsFound ds visible c None
     → called_names (givers_of ds visible) c ≡ []
 giver_unfound ds visible (callee.Opcode o) h = refl
@@ -35,7 +36,7 @@ giver_found ds visible (callee.Name x) f h =
 
 -- ---- marks
 
--- before anything is looked through
+-- before anything is searched
 pub none_done : (ds : List Definition) (g : GivenGlobals) (n : ℕ) → length ds ≡ n → g.done.items ≡ replicate n false
     → IsDone ds g
 none_done ds g n long marks = record {
@@ -43,7 +44,7 @@ none_done ds g n long marks = record {
   has = λ k d at here. absurd (cc (replicated n k false true (sym (ap (λ l. slice_get l k) marks) ∙ at)));
 }
 
--- nothing is given that wasn't
+-- a callee without a definition adds no names
 pub looks_unfound : (f : Front) (g : GivenGlobals) (c : Callee) → IsDone (definitions_of f.library.now) g
     → IsFound (definitions_of f.library.now) f.visible c None → Looks f g g (called_names (givers_in f) c)
 looks_unfound f g c d h = record {
@@ -51,7 +52,7 @@ looks_unfound f g c d h = record {
   done = d;
 }
 
--- what a marked definition gives is given
+-- the names of a marked definition are in the table already
 pub looks_again : (f : Front) (g : GivenGlobals) (c : Callee) (found : FoundDefinition)
     → IsDone (definitions_of f.library.now) g → IsFound (definitions_of f.library.now) f.visible c (Some found)
     → slice_get (definitions_of f.library.now) found.place ≡ Some (definition found.definition.now)
@@ -70,7 +71,7 @@ get_set_other (x ∷ xs) zero zero b other = absurd (other refl)
 get_set_other (x ∷ xs) (suc i) (suc k) b other = get_set_other xs i k b (λ e. other (ap suc e))
 get_set_other xs i k b other = refl
 
--- what a definition gives at its first call, after which it is marked
+-- the names of a definition are added at its first call, after which it is marked
 pub looks_first : (f inner : Front) (old made new : GivenGlobals) (c : Callee) (found : FoundDefinition)
     → inner.library ≡ f.library → inner.visible ≡ found.place
     → IsFound (definitions_of f.library.now) f.visible c (Some found)
@@ -108,9 +109,9 @@ looks_first f inner old made new c found lib vis h at l names marks =
       };
     }
 
--- ---- the whole
+-- ---- the entire orchestra
 
--- the global variables of an expanded orchestra, by the text as it is written
+-- the global variables of an expanded orchestra are the same as in the text as written
 pub all_written : (o : Orchestra) → IsWellFormed o → first_fault o ≡ None → all_globals (expanded_orchestra o)
     ≡ given_globals (given_globals no_names (names_in_block (givers_of o.opcodes 0) o.zero))
     (names_in_instruments o.opcodes o.instrs)
@@ -134,7 +135,7 @@ looks_both f old mid new xs ys a b = record {
   done = b.done;
 }
 
--- names that a statement gives itself
+-- names that a statement assigns itself
 pub looks_given : (f : Front) (old new : GivenGlobals) (ys : List (List ℕ)) → IsDone (definitions_of f.library.now) old
     → new.names ≡ given_globals old.names ys → new.done.items ≡ old.done.items → Looks f old new ys
 looks_given f old new ys d names marks = record {

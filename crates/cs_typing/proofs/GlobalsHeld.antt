@@ -1,4 +1,4 @@
--- Global variables that are given are among those that are given, and given once more they change nothing.
+-- Added global variables are in the table, and adding them again changes nothing.
 use Rattle.std.proofs.Common.{◌≡◌, ◌∙◌, ℕ, Bool, true, false, if◌then◌else◌, List, [], ◌∷◌, refl, ap}
 use Rattle.std.proofs.lemmas.List.Elements.{All-nil, All-cons, All-head, All-tail, All-weaker}
 use Rattle.cs_words.specs.Names.{is_global}
@@ -25,7 +25,7 @@ all_on t (x ∷ xs) =
 pub one_held : (t : RateNames) (x : List ℕ) → Held (given_global t x) x
 one_held t x e = ap (λ b. in_table (if b then added t x else t) x) e ∙ added_in t x
 
--- what is given is held
+-- the table has the names that were added
 pub given_held : (t : RateNames) (xs : List (List ℕ)) → Has (given_globals t xs) xs
 given_held t [] = All-nil (Held t)
 given_held t (x ∷ xs) =
@@ -33,7 +33,7 @@ given_held t (x ∷ xs) =
     All-cons (Held (given_globals now xs)) x xs
     (λ e. in_on now (given_globals now xs) x (all_on now xs) (one_held t x e)) (given_held now xs)
 
--- and held on where more is given
+-- the table still has them after more names are added
 pub held_on : (t : RateNames) (xs ys : List (List ℕ)) → Has t xs → Has (given_globals t ys) xs
 held_on t xs ys h =
     All-weaker (Held t) (Held (given_globals t ys))
@@ -46,7 +46,7 @@ one_again t x h = by (is_global x) h
     by true k = added_there t x (k refl)
     by false k = refl
 
--- what is held is nothing new
+-- adding names that the table has changes nothing
 pub held_again : (t : RateNames) (xs : List (List ℕ)) → Has t xs → given_globals t xs ≡ t
 held_again t [] h = refl
 held_again t (x ∷ xs) h =

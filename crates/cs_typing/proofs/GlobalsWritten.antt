@@ -1,4 +1,4 @@
--- The global variables that expanded statements give are those that the written ones give.
+-- The global variables that expanded statements assign are those that the statements as written assign.
 use Rattle.std.proofs.Common.{◌≡◌, ◌∙◌, ◌++◌, ℕ, Bool, true, false, if◌then◌else◌, List, [], ◌∷◌, map, Option, Some}
 use Rattle.std.proofs.Common.{None, ◌+◌, zero, suc, nat_lt, arith, refl, subst, sym, ap, take}
 use Rattle.std.specs.List.{All, prefix_len}
@@ -46,7 +46,7 @@ inputs_not_given t line (x ∷ xs) (value e ∷ args) h =
     ∙ inputs_not_given t line xs args h.1
 inputs_not_given t line xs args h = refl
 
--- names that go on being global, and names of one's own
+-- a renaming that keeps global names and maps local names to local names
 pub record Keeps (own : List ℕ → List ℕ) : Type 0 where
   pub local : (x : List ℕ) → is_global (own x) ≡ is_global x
   pub shared : (x : List ℕ) → is_global x ≡ true → own x ≡ x
@@ -77,13 +77,14 @@ module _ {own : List ℕ → List ℕ} (o : Keeps own) where
       ap (λ u. globals_of_block u (assignments line (map own xs) (map (value_in f) ys))) (own_given t x)
       ∙ results_given (given_global t x) line f xs ys h
 
--- ---- what is called
+-- ---- the called opcode
 
--- a defined opcode gives these names, and its inputs are local
+-- a user-defined opcode assigns these names, and its inputs are local
 pub record Gives (t : Template) (xs : List (List ℕ)) : Type 0 where
   pub inputs : AllLocal t.inputs
   pub block : (g : RateNames) (f : ℕ) → globals_of_block g (t.block f) ≡ given_globals g xs
 
+-- each of the opcodes assigns the names that are listed for it
 abbrev pub AllGive : Opcodes → Givers → Type 0
 AllGive opcodes givers = (name : List ℕ) → Both Gives (opcodes name) (givers name)
 
@@ -147,7 +148,7 @@ module _ (opcodes : Opcodes) (givers : Givers) (m : AllGive opcodes givers) wher
         ∙ arms_given o (given_globals t (names_in_block givers b)) g rest parts.1
         ∙ sym (given_both t (names_in_block givers b) (names_in_arms givers rest))
 
--- ---- what definitions give
+-- ---- the names that definitions assign
 
 names_joins : (givers : Givers) (a b : Block)
     → names_in_block givers (joins a b) ≡ names_in_block givers a ++ names_in_block givers b
@@ -172,7 +173,7 @@ slots_local : (n : ℕ) (rs : List Rate) → AllLocal (slots n rs)
 slots_local n [] = tt
 slots_local n (r ∷ rs) = (slot_local n r, slots_local (n + 1) rs)
 
--- the names of the whole body are those of its statements, and slots
+-- a body with its slot assignments assigns the names of its statements, and slots
 whole_given : (givers : Givers) (d : Definition) (t : RateNames)
     → given_globals t (names_in_block givers (whole_body d)) ≡ given_globals t (names_in_block givers d.body)
 whole_given givers d t =
@@ -195,6 +196,7 @@ give_more : (opcodes : Opcodes) (givers : Givers) → AllGive opcodes givers →
 give_more opcodes givers m d local none =
     both_more Gives template names_given opcodes givers m d (gives_of opcodes givers m d local none)
 
+-- the inputs of each definition are local
 abbrev pub AllLocalInputs : List Definition → Type 0
 AllLocalInputs [] = Unit {0}
 AllLocalInputs (d ∷ ds) = AllLocal d.names × AllLocalInputs ds
@@ -222,7 +224,7 @@ pub all_give : (ds : List Definition) (n : ℕ) → AllLocalInputs ds → faults
     → AllGive (opcodes_of ds n) (givers_of ds n)
 all_give ds n local none = give_first no_opcodes (λ name. None) (λ name. tt) ds n local none
 
--- ---- the whole
+-- ---- the entire orchestra
 
 plain_keeps : Keeps as_it_is
 plain_keeps = record { local = λ x. refl; shared = λ x h. refl }
@@ -233,7 +235,7 @@ plain_block_given t b =
     sym (ap (globals_of_block t) (same_block 1 b))
     ∙ block_given no_opcodes (λ name. None) (λ name. tt) plain_keeps t 1 b (none_called_block b)
 
--- an instrument, where so many definitions stand in front of it
+-- an instrument, with the definitions before it
 instrument_given : (ds : List Definition) → AllLocalInputs ds → faults_of_definitions no_opcodes ds ≡ []
     → (t : RateNames) (i : Instrument) → faults_in (opcodes_before i.line ds) true i.body ≡ []
     → globals_of_block t (expanded_block (opcodes_before i.line ds) as_it_is 1 i.body)

@@ -1,9 +1,9 @@
--- Typed arms in front of others.
+-- Typed arms, followed by others.
 use Rattle.std.proofs.Common.{◌≡◌, ◌++◌, List, [], ◌∷◌, refl, ap}
 use Rattle.cs_typed.specs.declared.tree.TypedArm.{TypedArm, out-TypedArm}
 use Rattle.cs_typed.specs.TypedTree.{Arms, arm, otherwise, Block, no_stmt, andthen, expression, block, arms, then_block}
 
--- where these are the routines
+-- the mirror of a list of arms, with these routines, followed by others
 abbrev pub with_arms : List Block → List TypedArm → Arms → Arms
 with_arms rs [] rest = rest
 with_arms rs (a ∷ more) rest =

@@ -1,4 +1,4 @@
--- Statements behind others: what is known behind them, the first rule that they break, their typed form.
+-- Statements after others: the names known after them, the first rule that they break, and their typed form.
 use Rattle.std.proofs.Common.{◌≡◌, ◌∙◌, Option, Some, None, refl, sym, ap}
 use Rattle.std.specs.Option.{option_or}
 use Rattle.cs_grammar.specs.Tree.{Block, no_stmt, andthen, joins}

@@ -1,4 +1,4 @@
--- What is known goes on being known.
+-- Known names remain known.
 use Rattle.std.proofs.Common.{◌≡◌, ◌∙◌, ℕ, Bool, true, false, if◌then◌else◌, List, [], ◌∷◌, Option, Some, None, refl}
 use Rattle.std.proofs.Common.{sym, ap}
 use Rattle.cs_words.specs.{Catalogue.Row, Catalogue.row_of, NameSets.seen, Names.is_global}
@@ -104,7 +104,7 @@ items_later n (x ∷ rest) =
     later_further n (known_item n x) (known_items (known_item n x) rest) (item_later n x)
     (items_later (known_item n x) rest)
 
--- a channel that is used has its number from then on
+-- a channel keeps its number once it has been used
 pub channel_same : (s r : Shared) (kind : Channel) (t : List ℕ) → SharedGoesOn (used s kind t) r
     → channel_of s kind t ≡ channel_of r kind t
 channel_same s r channel.Control t l =

@@ -1,4 +1,4 @@
--- Names that are known stay known, each at its place.
+-- Known names remain known, each with its number.
 use Rattle.std.proofs.Common.{◌≡◌, ◌∙◌, ℕ, ◌+◌, Bool, cond, true, false, not, ◌||◌, if◌then◌else◌, List, [], ◌∷◌, ◌++◌}
 use Rattle.std.proofs.Common.{append_assoc, refl, sym, ap}
 use Rattle.std.specs.Str.{bytes_eq}
@@ -9,7 +9,7 @@ use Rattle.cs_words.proofs.Places.{new_place, past_all, seen_is_there}
 use Rattle.cs_typing.specs.Known.{RateNames, of_rate, with_name, in_table, place_in, added}
 use Rattle.cs_base.specs.declared.resource.Rate.TheVariants as rate
 
--- a list goes on as another
+-- a list is a prefix of another
 pub record GoesOn (xs ys : List (List ℕ)) : Type 0 where
   pub rest : List (List ℕ)
   pub is : ys ≡ xs ++ rest
@@ -55,7 +55,7 @@ seen_place xs x = by (has xs x) refl
     by true e = ap (λ b. place_of (if b then xs else xs ++ x ∷ []) x) e
     by false e = new_place xs x e ∙ sym (past_all xs x e)
 
--- ---- names by their rates
+-- ---- names by rate
 
 pub record TableGoesOn (t u : RateNames) : Type 0 where
   pub each : (r : Rate) → GoesOn (of_rate r t) (of_rate r u)

@@ -1,4 +1,4 @@
--- Routines in a list: what stands at a place goes on standing there.
+-- Routines in a list: a routine keeps its index and its body.
 use Rattle.std.proofs.Common.{◌≡◌, ◌∙◌, ◌+◌, ◌<◌, ◌++◌, ℕ, zero, suc, List, [], ◌∷◌, length, Vec, Global, refl, sym, ap}
 use Rattle.std.proofs.Common.{arith}
 use Rattle.cs_typed.specs.declared.tree.TypedStmt.{TypedStmt}
@@ -8,7 +8,7 @@ use Rattle.cs_typed.proofs.Moved.{then_again}
 use Rattle.cs_typing.proofs.Joined.{then_nothing}
 use Rattle.cs_typed.specs.TypedTree as typed
 
--- statements of two lists
+-- the statements of two lists
 pub block_both : (rs : List typed.Block) (xs ys : List TypedStmt)
     → typed.block rs (xs ++ ys) ≡ typed.then_block (typed.block rs xs) (typed.block rs ys)
 block_both rs [] ys = refl
@@ -31,7 +31,7 @@ more_both : (rs : List typed.Block) (list : Bodies) (r : Vec TypedStmt Global) �
 more_both rs [] r = refl
 more_both rs (x ∷ list) r = more_both (rs ++ typed.block rs x.items ∷ []) list r
 
--- one routine more
+-- one more routine
 pub routines_more : (list : Bodies) (r : Vec TypedStmt Global)
     → typed.routines (list ++ r ∷ []) ≡ typed.routines list ++ typed.block (typed.routines list) r.items ∷ []
 routines_more list r = more_both [] list r
@@ -46,23 +46,23 @@ more_length rs (x ∷ list) =
     let rest = more_length (rs ++ typed.block rs x.items ∷ []) list in
     let one = length_both rs (typed.block rs x.items ∷ []) in omega (arith, rest, one)
 
--- there are as many as bodies
+-- there are as many routines as bodies
 pub routines_length : (list : Bodies) → length (typed.routines list) ≡ length list
 routines_length list = let all = more_length [] list in omega (arith, all)
 
--- what stands at a place, with more behind
+-- a routine of a list with more routines after it
 pub at_front : (rs more : List typed.Block) (k : ℕ) → k < length rs
     → typed.routine_at (rs ++ more) k ≡ typed.routine_at rs k
 at_front [] more k h = absurd (omega (arith, h))
 at_front (r ∷ rs) more zero h = refl
 at_front (r ∷ rs) more (suc k) h = at_front rs more k (omega (arith, h))
 
--- the last one
+-- the last routine
 pub at_end : (rs : List typed.Block) (b : typed.Block) → typed.routine_at (rs ++ b ∷ []) (length rs) ≡ b
 at_end [] b = refl
 at_end (r ∷ rs) b = at_end rs b
 
--- what is typed stays typed where there are more routines
+-- a typed definition remains valid if there are more routines
 pub typed_on : (channels : ℕ) (g : Shared) (r : Routine) (it : TypedDefinition) (blocks more : List typed.Block)
     → IsTyped channels g r it blocks → IsTyped channels g r it (blocks ++ more)
 typed_on channels g r it blocks more h = record {

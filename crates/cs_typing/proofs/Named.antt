@@ -7,6 +7,7 @@ use Rattle.cs_grammar.specs.Tree.{Statement, set, call, choose, Block, no_stmt, 
 use Rattle.cs_grammar.specs.WellFormed.{HasNoStop, IsVariable, WellFormedExpr, WellFormedArg, WellFormedStmt}
 use Rattle.cs_grammar.specs.{WellFormed.WellFormedBlock, WellFormed.WellFormedArms, declared.scope.Place.Place}
 
+-- P holds of the name of each variable in an expression
 abbrev pub Named : (List ℕ → Type 0) → Expression → Type 0
 Named P (number z) = Unit {0}
 Named P (var x) = P x
@@ -17,10 +18,12 @@ Named P (pair o a b) = Named P a × Named P b
 Named P (pick c a b) = Named P c × Named P a × Named P b
 Named P (apply f a) = Named P a
 
+-- P holds of each name
 abbrev pub NamedAll : (List ℕ → Type 0) → List (List ℕ) → Type 0
 NamedAll P [] = Unit {0}
 NamedAll P (x ∷ xs) = P x × NamedAll P xs
 
+-- P holds of the name of each variable in arguments
 abbrev pub NamedArguments : (List ℕ → Type 0) → List Argument → Type 0
 NamedArguments P [] = Unit {0}
 NamedArguments P (value e ∷ args) = Named P e × NamedArguments P args
@@ -72,7 +75,7 @@ module _ (P : List ℕ → Type 0) (h : (x : List ℕ) → P x) where
     any_arms (otherwise b) = any_block b
     any_arms (arm c b rest) = (any_named c, any_block b, any_arms rest)
 
--- ---- statements of a text: no name has a full stop
+-- ---- statements from a text: no name has a full stop
 
 module _ (P : List ℕ → Type 0) (k : (x : List ℕ) → HasNoStop x → P x) where
   pub expression_named : (e : Expression) → WellFormedExpr e → Named P e

@@ -1,4 +1,4 @@
--- Names with their numbers in a table.
+-- Names with their numbers in a map.
 use Rattle.std.proofs.Common.{◌≡◌, ◌∙◌, ℕ, false, Bor, List, Some, sym, ap, if◌then◌else◌}
 use Rattle.std.specs.BTreeMap.{BTreeMap, UpdatesBy, get_by}
 use Rattle.std.specs.{Cmp.Lexicographic.slice_cmp, Ordering.nat_cmp, Str.bytes_eq}
@@ -13,7 +13,7 @@ Numbers = BTreeMap (Bor (List ℕ)) ℕ
 abbrev locals : Numbers → PerRate ℕ → Locals
 locals m counts = record { number = λ x. get_by (λ k. slice_cmp nat_cmp x k.now) m; counts = counts }
 
--- a new local variable is put in, with the next number of its rate
+-- a new local variable is inserted with the next number of its rate
 pub put_in : (m more : Numbers) (x : List ℕ) (v : ℕ) (c d : PerRate ℕ) → has_local (locals m c) x ≡ false
     → UpdatesBy (λ a b. slice_cmp nat_cmp a.now b.now) (λ k. slice_cmp nat_cmp x k.now) m more (Some v)
     → v ≡ at_rate c (name_rate x) → d ≡ counted (name_rate x) c

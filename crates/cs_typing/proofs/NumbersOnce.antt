@@ -1,4 +1,4 @@
--- The typed instruments of an orchestra have the numbers that the instruments of the text have.
+-- The typed instruments of an orchestra have the numbers of the instruments in the text.
 use Rattle.std.proofs.Common.{eqb, List, [], ◌∷◌, ◌++◌, ◌≡◌, refl, sym, ap, subst}
 use Rattle.std.specs.List.{IsDistinct, flat_map}
 use Rattle.std.proofs.lemmas.{Bool.eq-eqb, Bool.eqb-true, Map.Made.IsDistinct-from_AllPairs}

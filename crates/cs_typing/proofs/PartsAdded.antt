@@ -1,4 +1,4 @@
--- The parts of an orchestra, one after another: what is known and made behind some is so behind all.
+-- The parts of an orchestra, one after another: the known names and the typed form after two lists of parts.
 use Rattle.std.proofs.Common.{◌≡◌, ◌∙◌, ℕ, ◌++◌, List, [], ◌∷◌, Option, Some, None, refl, sym, ap}
 use Rattle.std.specs.Option.{option_or}
 use Rattle.std.proofs.lemmas.List.{append_assoc}
@@ -21,7 +21,7 @@ pub after_both : (ds : List Definition) (k : KnownInBody) (m : MadeParts) (xs ys
 after_both ds k m [] ys = refl
 after_both ds k m (x ∷ xs) ys = after_both ds (known_behind ds k x) (after_part ds k m x) xs ys
 
--- some parts, and then others
+-- a list of parts, followed by another
 pub adds_both : (ch : ℕ) (ds : List Definition) (a b c : Typing) (xs ys : List Item) → AddsParts ch ds a b xs
     → AddsParts ch ds b c ys → AddsParts ch ds a c (xs ++ ys)
 adds_both ch ds a b c xs ys p q = record {
@@ -34,7 +34,7 @@ adds_both ch ds a b c xs ys p q = record {
     k : KnownInBody
     k = known_of a.so_far.names
 
-    -- the routines of c, with more behind, are those of b with more behind
+    -- the routines of c, followed by more, are the routines of b, followed by more
     same : (more : List typed.Block) → blocks_in c.so_far.routines ++ more
         ≡ blocks_in b.so_far.routines ++ (q.longer.0 ++ more)
     same more = ap (λ l. l ++ more) q.longer.1 ∙ append_assoc (blocks_in b.so_far.routines) q.longer.0 more

@@ -1,4 +1,4 @@
--- Where header lines break no rule, what each of them gives lies in its range.
+-- If header lines break no rule, the value of each is in its range.
 use Rattle.std.proofs.Common.{◌≡◌, ℕ, ℤ, pos, negsuc, ◌≤◌, ◌<ℤ◌, ◌%◌, ◌/◌, ◌*◌, Bool, true, false, not, ◌&&◌, ◌==◌}
 use Rattle.std.proofs.Common.{nat_le, if◌then◌else◌, List, [], ◌∷◌, ◌++◌, Option, Some, None, arith, ap, sym, subst}
 use Rattle.std.proofs.Common.{◌∙◌, refl}
@@ -22,7 +22,7 @@ name_is head.Nchnls head.Nchnls h = refl
 name_is head.Dbfs head.Dbfs h = refl
 name_is a b h = absurd (cc h)
 
--- no first fault of two: neither of them
+-- if the first of two faults is None, both are None
 neither : (line : ℕ) (k : Option OrcKind) (r : Option OrcFault) → option_or (at line k) r ≡ None
     → (k ≡ None) × (r ≡ None)
 neither line None r h = (refl, h)
@@ -39,7 +39,7 @@ here name l h same found ok =
     ap (λ n. in_range n h.value) (name_is name l.name same)
     ∙ ap (λ x. in_range l.name x.value) (sym (some_is l h found)) ∙ ok
 
--- what the first line of a name gives lies in that name's range
+-- the value of the first line with a name is in the range of that name
 pub found : (name : HeadName) (before hs : List HeadLine) (h : HeadLine) → headers_fault before hs ≡ None
     → header_of name hs ≡ Some h → in_range name h.value ≡ true
 found name before [] h none some = absurd (cc some)
@@ -113,7 +113,7 @@ cycle_within hs none kr =
     (ksmps_of (rate_of_frames hs) k (header_of head.Ksmps hs) ≤ 4096)) (sym no)
     (by_ksmps (rate_of_frames hs) (header_of head.Ksmps hs) (λ h some. found head.Ksmps [] hs h none some)))
 
--- a line among these gives a name
+-- one of these lines has the name
 pub given : (name : HeadName) (hs : List HeadLine)
     → is_some (header_of name hs) ≡ list_any (λ b. same_head name b.name) hs
 given name [] = refl

@@ -1,4 +1,4 @@
--- What an orchestra without a fault becomes agrees with the rules of rates.
+-- The typed form of statements without a fault agrees with the rules of rates.
 use Rattle.std.proofs.Common.{◌≡◌, ◌∙◌, ℕ, true, ◌&&◌, ◌||◌, if◌then◌else◌, List, [], ◌∷◌, None, refl, sym, ap}
 use Rattle.std.specs.{List.All, Option.option_or}
 use Rattle.std.proofs.lemmas.{Bool.and_parts, List.Elements.All-cons, List.Elements.All-nil}

@@ -29,7 +29,7 @@ use Rattle.cs_grammar.specs.declared.tree.Callee.TheVariants as callee
 use Rattle.cs_typing.specs.declared.known.Channel.TheVariants as channel
 use Rattle.cs_typed.specs.TypedTree as typed
 
--- ---- letters that take no text
+-- ---- letters that accept no text
 
 at_fixed : (ls : List Letter) (l : Letter) (j : ℕ) → list_all (λ m. not (is_text m)) ls ≡ true → is_text l ≡ false
     → is_text (unwrap_or (slice_get ls j) l) ≡ false
@@ -62,14 +62,14 @@ no_text : (row : Row) → list_all (λ m. not (is_text m)) row.fixed ≡ true �
 no_text row h k j = at_fixed row.fixed (further row.more (j - length row.fixed)) j h
     (at_further row.more (j - length row.fixed) k)
 
--- ---- arguments where no text leaves a trace
+-- ---- arguments whose texts are left out
 
 fits_value : (n : KnownHere) (l m : Letter) (b : Rate) (e : _) → l ≡ m → takes l b (rate_of e) ≡ true
     → takes m b (node_rate (typed_expression n e)) ≡ true
 fits_value n l m b e same h =
     ap (λ p. takes p b (node_rate (typed_expression n e))) (sym same) ∙ ap (λ r. takes l b r) (node_is n e) ∙ h
 
--- letters of a row from a place on, as another row has them
+-- the letters of a row, from an index on, are the letters of another row
 plain_letters : (n : KnownHere) (row left : Row) (b : Rate) (d : ℕ)
     → ((j : ℕ) → letter_at row (j + d) ≡ letter_at left j)
     → ((j : ℕ) → is_text (letter_at left j) ≡ false) → (args : List Argument) (m k : ℕ) → m ≡ k + d
@@ -101,7 +101,7 @@ plain_row : (n : KnownHere) (row : Row) (b : Rate) (args : List Argument)
 plain_row n row b args f g h =
     plain_letters n row row b 0 (λ j. ap (λ i. letter_at row i) (and_none j)) (no_text row f g) args 0 0 refl h
 
--- ---- arguments where a text is a channel
+-- ---- arguments with a text that is a channel
 
 kept_letters : (n : KnownHere) (kind : Channel) (row : Row) (b : Rate) (args : List Argument) (k : ℕ)
     → all_fit row b k args ≡ true → (fit_letters row b k (typed_arguments n (Some kind) args) ≡ true)
@@ -271,7 +271,7 @@ done_right n role sh [] args =
 done_right n role sh (name ∷ rest) args =
     ap (λ r. if is_starting sh then rate.Init else r) (sym (variable_rate n name).0)
 
--- ---- a channel suits its use
+-- ---- a channel fits its use
 
 sound_agrees : (a b : Bool) → b ≡ a → (if a then b else not b) ≡ true
 sound_agrees true b h = h

@@ -12,7 +12,7 @@ use Rattle.cs_base.specs.declared.resource.Rate.TheVariants as rate
 use Rattle.cs_words.specs.declared.word.Func.TheVariants as func
 use Rattle.cs_typed.specs.declared.tree.Var.TheVariants as variable_of
 
--- the rate beside the typed form is that of the text
+-- the rate in the typed form is the rate of the expression
 pub node_is : (n : KnownHere) (e : Expression) → node_rate (typed_expression n e) ≡ rate_of e
 node_is n (number v) = refl
 node_is n e = refl
@@ -28,7 +28,7 @@ either_rate : (b : Bool) (r : Rate) (j k : ℕ)
 either_rate true r j k = global_rate r j
 either_rate false r j k = (refl, refl)
 
--- a variable changes as often as its name says
+-- a variable has the rate of its name
 pub variable_rate : (n : KnownHere) (name : List ℕ)
     → (var_rate (variable n name) ≡ name_rate name) × (is_variable (variable n name) ≡ true)
 variable_rate n name = either_rate (is_global name) (name_rate name) (place_in n.shared.globals name)
@@ -61,7 +61,7 @@ not_faster rate.Control rate.Audio h k = absurd (cc k)
 not_faster rate.Audio s h k = absurd (cc h)
 not_faster r s h k = refl
 
--- a condition is no sound
+-- a condition is not a-rate
 pub no_sound : (c : Expression) → is_condition c ≡ true → is_audio (rate_of c) ≡ false
 no_sound (pair o a b) h =
     let fast = is_audio (faster (rate_of a) (rate_of b)) in

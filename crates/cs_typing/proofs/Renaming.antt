@@ -1,4 +1,4 @@
--- Other names for local variables change nothing.
+-- Renaming local variables changes nothing.
 use Rattle.std.proofs.Common.{◌≡◌, ◌∙◌, ℕ, ◌+◌, Bool, cond, true, false, not, ◌&&◌, ◌||◌, if◌then◌else◌, List, [], ◌∷◌}
 use Rattle.std.proofs.Common.{◌++◌, map, Some, None, refl, sym, ap}
 use Rattle.std.specs.{Str.bytes_eq, Option.option_or}

@@ -1,5 +1,5 @@
--- Statements that are typed where they are expanded, and typed with routines: the same is known behind them, they break
--- the same rule first, and their typed forms differ by a base of numbers.
+-- Statements typed in their expansion, and typed with routines: the same names are known after them, they
+-- break the same rule first, and their typed forms differ only by base numbers.
 use Rattle.std.proofs.Common.{◌≡◌, ◌∙◌, ℕ, ◌≤◌, ◌<◌, ◌==◌, Bool, true, false, not, ◌&&◌, ◌||◌, if◌then◌else◌, List, []}
 use Rattle.std.proofs.Common.{◌∷◌, ◌++◌, length, map, Option, Some, None, arith, refl, sym, ap, subst}
 use Rattle.std.specs.Option.{option_or}
@@ -85,6 +85,7 @@ call_fits line xs args t e =
 
 -- ---- opcodes and their routines
 
+-- the expansion of each opcode agrees with its routine
 abbrev pub AllMatch : Opcodes → Routines → Type 0
 AllMatch opcodes rs = (name : List ℕ) → Both Matches (opcodes name) (rs name)
 
@@ -93,7 +94,7 @@ at_callee : (opcodes : Opcodes) (rs : Routines) → AllMatch opcodes rs → (c :
 at_callee opcodes rs m (callee.Opcode o) = tt
 at_callee opcodes rs m (callee.Name name) = m name
 
--- ---- frames are counted upwards
+-- ---- the numbers of frames increase
 
 call_grows : (t : Option Template) (r : Option Routine) → Both Matches t r → (f : ℕ) → f ≤ after_called f t
 call_grows None None h f = omega arith
@@ -127,9 +128,9 @@ module _ (opcodes : Opcodes) (rs : Routines) (m : AllMatch opcodes rs) where
         further f (after_block opcodes f b) (after_arms opcodes (after_block opcodes f b) rest) (block_grows f b)
         (arms_grow (after_block opcodes f b) rest)
 
--- ---- names of others are not given
+-- ---- names of other frames are not assigned
 
--- a name that is none of a body's own and none of a frame from a number on
+-- a name that belongs neither to the body nor to a frame from number f on
 pub record Stranger (P : List ℕ → Type 0) (own : List ℕ → List ℕ) (f : ℕ) (y : List ℕ) : Type 0 where
   pub names : (x : List ℕ) → P x → is_global x ≡ false → y ≡ own x → ⊥
   pub frames : (x : List ℕ) (g : ℕ) → f ≤ g → y ≡ fresh g x → ⊥
@@ -222,7 +223,7 @@ module _ (opcodes : Opcodes) (rs : Routines) (m : AllMatch opcodes rs) {P : List
 
 -- ---- statements
 
--- the number of arguments and results of a call of a routine
+-- the numbers of arguments and results in a call of a routine
 routine_fits : (t : Template) (r : Routine) → Matches t r → (line : ℕ) (xs : List (List ℕ)) (args : List Argument)
     → call_faults true line xs args (Some t) ≡ [] → ArgumentsFit r.inputs args × ResultsFit xs r.results
 routine_fits t r m line xs args none =
@@ -251,7 +252,7 @@ module _ {P : List ℕ → Type 0} {own : List ℕ → List ℕ} (base : PerRate
       let fits = routine_fits t r m line xs args none in
       routine_meets o base n k s t r m line xs args p a fits.0 fits.1
 
--- the same of the arms of an `if`
+-- the same facts about the arms of an `if`
 record ArmsMeet (P : List ℕ → Type 0) (own : List ℕ → List ℕ) (h : ℕ) (base : PerRate ℕ) (n : KnownHere) (line : ℕ)
     (list : Arms) (k : KnownInBody) (rule : Setting → Option OrcFault) (made : typed.Arms) : Type 0 where
   known : Mirrors P own h base (known_arms n list) k

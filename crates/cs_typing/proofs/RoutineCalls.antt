@@ -1,4 +1,4 @@
--- A call of a defined opcode: its expansion, typed in the caller, and its routine.
+-- A call of a user-defined opcode: its expansion, typed in the caller, and its routine.
 use Rattle.std.proofs.Common.{◌≡◌, ◌∙◌, ℕ, ◌+◌, ◌≤◌, ◌<◌, Bool, true, false, if◌then◌else◌, List, [], ◌∷◌, map, Option}
 use Rattle.std.proofs.Common.{Some, None, arith, refl, sym, ap, subst}
 use Rattle.std.specs.{Option.is_some, Option.option_or, Option.unwrap_or, Str.bytes_eq}
@@ -27,10 +27,10 @@ use Rattle.cs_typing.proofs.RoutineNames.{variable_given, some_there, mirrors_gi
 use Rattle.cs_typed.specs.TypedTree as typed
 use Rattle.cs_typed.specs.declared.tree.Var.TheVariants as variant
 
--- ---- expanded statements and those of the text
+-- ---- expanded statements and statements of the text
 
--- Behind expanded statements the same is known as behind those of the text, they break the same rule first, and where
--- they break none their typed form is that of the text, moved.
+-- After expanded statements the same names are known as after the statements of the text, both break the same
+-- rule first, and if they break none, the typed form of the expansion is the typed form of the text, moved.
 pub record Meets (P : List ℕ → Type 0) (own : List ℕ → List ℕ) (h : ℕ) (base : PerRate ℕ) (n : KnownHere) (b : Block)
     (k : KnownInBody) (rule : Setting → Option OrcFault) (made : typed.Block) : Type 0 where
   pub known : Mirrors P own h base (known_block n b) k
@@ -39,7 +39,7 @@ pub record Meets (P : List ℕ → Type 0) (own : List ℕ → List ℕ) (h : �
 
 -- ---- an opcode's expansion and its routine
 
--- What the expansion of an opcode does in any frame, behind any variables of its caller, is what its routine says.
+-- The expansion of an opcode, in any frame and after any variables of its caller, agrees with its routine.
 pub record Matches (t : Template) (r : Routine) : Type 0 where
   pub inputs : t.inputs ≡ r.inputs
   pub results : t.results ≡ r.results
@@ -52,7 +52,7 @@ pub record Matches (t : Template) (r : Routine) : Type 0 where
       → Meets Any (in_frame f) (t.after f) base n (t.block f) (known_in (r.shared g) r.last) (λ s. r.fault s g)
       (r.block g)
 
--- arguments for inputs, and variables for results, one for each
+-- one argument for each input
 abbrev pub ArgumentsFit : List (List ℕ) → List Argument → Type 0
 ArgumentsFit [] [] = Unit {0}
 ArgumentsFit [] (a ∷ args) = ⊥
@@ -60,13 +60,14 @@ ArgumentsFit (x ∷ xs) [] = ⊥
 ArgumentsFit (x ∷ xs) (value e ∷ args) = ArgumentsFit xs args
 ArgumentsFit (x ∷ xs) (text t ∷ args) = ⊥
 
+-- one variable for each result
 abbrev pub ResultsFit : List (List ℕ) → List (List ℕ) → Type 0
 ResultsFit [] [] = Unit {0}
 ResultsFit [] (y ∷ ys) = ⊥
 ResultsFit (x ∷ xs) [] = ⊥
 ResultsFit (x ∷ xs) (y ∷ ys) = ResultsFit xs ys
 
--- ---- numbers stay
+-- ---- numbers are unchanged
 
 pub number_kept : (l : Locals) (z x : List ℕ) → has_local l x ≡ true → (given_in l z).number x ≡ l.number x
 number_kept l z x h = by (is_global z) (has_local l z) refl
@@ -92,7 +93,7 @@ all_kept : (l : Locals) (zs : List (List ℕ)) (x : List ℕ) → has_local l x 
 all_kept l [] x h = refl
 all_kept l (z ∷ zs) x h = all_kept (given_in l z) zs x (has_kept l z x h) ∙ number_kept l z x h
 
--- a local variable has its number when it is given
+-- a local variable has its number after it is assigned
 given_has : (l : Locals) (x : List ℕ) → is_global x ≡ false → (given_in l x).number x ≡ Some (number_in l x)
 given_has l x e = by (is_global x) (has_local l x) e refl
   where
@@ -134,7 +135,7 @@ variable_stays g l x xs = by (is_global x) refl
     by false e =
         ap (variant.Local (name_rate x)) (sym (ap (λ o. unwrap_or o (at_rate last.counts (name_rate x))) (there e)))
 
--- ---- names of a frame are none of the caller's
+-- ---- names of a frame differ from the caller's names
 
 module _ {P : List ℕ → Type 0} {own : List ℕ → List ℕ} {f : ℕ} (o : Owns P own f) where
   pub frame_other : (x y : List ℕ) → P x → is_global x ≡ false → own x ≡ in_frame f y → ⊥
@@ -188,7 +189,7 @@ module _ {P : List ℕ → Type 0} {own : List ℕ → List ℕ} {f : ℕ} (o : 
         (inputs_typed q (given n (in_frame f x)) next r (given_in l x) more line xs args h.1 e parts.1 i)
     inputs_typed q n s r l m line xs args h e none = refl
 
--- what is known of the routine's variables behind the inputs
+-- the routine's variables that are known after the inputs
 pub inputs_known : (f : ℕ) (base : PerRate ℕ) (own : List ℕ → List ℕ) (n : KnownHere) (g : Shared) (l : Locals)
     → Mirrors Any (in_frame f) (f + 1) base n (known_in g l)
     → (line : ℕ) (xs : List (List ℕ)) (args : List Argument) → ArgumentsFit xs args
@@ -203,7 +204,7 @@ inputs_known f base own n g l m line (x ∷ xs) (value e ∷ args) h =
     inputs_known f base own (given n (in_frame f x)) g (given_in l x)
     (mirrors_given (frame_owns f (f + 1) (omega arith)) base n (known_in g l) m x tt) line xs args h
 
--- ---- a frame begins, and the caller goes on
+-- ---- a frame begins, and the caller continues
 
 pub begins : {P : List ℕ → Type 0} {own : List ℕ → List ℕ} (f : ℕ) (base : PerRate ℕ) (n : KnownHere) (k : KnownInBody)
     → Mirrors P own f base n k
@@ -245,7 +246,7 @@ module _ {P : List ℕ → Type 0} {own : List ℕ → List ℕ} {f : ℕ} (o : 
   frame : Owns Any (in_frame f) (f + 1)
   frame = frame_owns f (f + 1) (omega arith)
 
-  -- what is given for all notes is none of the routine's
+  -- assigning a variable of the caller changes nothing for the routine
   inner_given : (n : KnownHere) → Inner n → (x : List ℕ) → P x → Inner (given n (own x))
   inner_given n s x p =
       sees_other Any (in_frame f) (counts_with base c) n (known_in g r.last) s (own x) (λ y q d same. by y d same
@@ -297,7 +298,7 @@ module _ {P : List ℕ → Type 0} {own : List ℕ → List ℕ} {f : ℕ} (o : 
       (mirrors_given later base n (known_in g l) m x p.0) line xs ys p.1 parts.1 i)
   results_typed q n l s m line xs ys p none = refl
 
--- ---- the whole call
+-- ---- the entire call
 
 module _ {P : List ℕ → Type 0} {own : List ℕ → List ℕ} {f : ℕ} (o : Owns P own f) (base : PerRate ℕ) (n : KnownHere)
     (k : KnownInBody) (m : Mirrors P own f base n k) (t : Template) (r : Routine) (same : Matches t r) (line : ℕ)
@@ -330,7 +331,7 @@ module _ {P : List ℕ → Type 0} {own : List ℕ → List ℕ} {f : ℕ} (o : 
       known_joins n (given_in_frame r.inputs) (joins (t.block f) (taken r.results))
       ∙ known_joins behind_inputs (t.block f) (taken r.results)
 
-  -- the caller's and the routine's variables, part for part
+  -- the caller's and the routine's variables, part by part
   inner_first : Mirrors Any (in_frame f) (f + 1) both behind_inputs (known_in k.shared r.first)
   inner_first =
       subst (λ l. Mirrors Any (in_frame f) (f + 1) both behind_inputs (known_in k.shared l)) (sym same.first)

@@ -1,4 +1,5 @@
--- Expressions, assignments and calls of the catalogue in a body that is typed where it is called, and typed for itself.
+-- Expressions, assignments and calls of the catalogue in a body that is typed where it is called, and typed
+-- separately.
 use Rattle.std.proofs.Common.{◌≡◌, ◌∙◌, ℕ, true, not, ◌&&◌, ◌||◌, if◌then◌else◌, List, [], ◌∷◌, map, Option, Some, None}
 use Rattle.std.proofs.Common.{refl, ap}
 use Rattle.std.proofs.lemmas.Bool.{and_parts}
@@ -25,7 +26,7 @@ use Rattle.cs_grammar.specs.declared.tree.Callee.TheVariants as callee
 use Rattle.cs_typed.specs.TypedTree as typed
 use Rattle.cs_typing.specs.declared.known.Channel.TheVariants as channel
 
--- ---- in a body that sees the same
+-- ---- in a body that knows the same names
 
 module _ {P : List ℕ → Type 0} {own : List ℕ → List ℕ} {f : ℕ} (o : Owns P own f) (base : PerRate ℕ) (n : KnownHere)
     (k : KnownInBody) where
@@ -80,7 +81,7 @@ module _ {P : List ℕ → Type 0} {own : List ℕ → List ℕ} {f : ℕ} (o : 
         let one = ap (λ g. channel_of g kind t) s.shared ∙ channel_stays k.shared kind t in
         λ i. typed.text (one i) ∷ arguments_same (Some kind) args h r i
 
-    -- an assignment to a name of the rate of x
+    -- an assignment to a name with the rate of x
     pub set_fault_same : (q : Setting) (z x : List ℕ) → name_rate z ≡ name_rate x → (e : Expression) → Named P e
         → set_fault q n z (renamed_expression own e) ≡ set_fault_by q (knows_in k) x e
     set_fault_same q z x same e h = λ i.

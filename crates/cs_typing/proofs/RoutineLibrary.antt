@@ -1,4 +1,4 @@
--- Definitions, and instruments: routines are what expansions are typed to.
+-- Definitions and instruments: routines agree with the typed expansions.
 use Rattle.std.proofs.Common.{◌≡◌, ◌∙◌, ℕ, ◌+◌, ◌≤◌, ◌<◌, Bool, true, false, if◌then◌else◌, List, [], ◌∷◌, ◌++◌, nat_lt}
 use Rattle.std.proofs.Common.{append_assoc, arith, refl, sym, ap}
 use Rattle.cs_base.specs.declared.resource.Rate.{Rate}
@@ -90,7 +90,7 @@ all_match opcodes rs m (d ∷ ds) none =
 pub none_match : AllMatch no_opcodes no_routines
 none_match name = tt
 
--- those in front of a line are not refused either
+-- no call in the definitions before a line is refused
 front_allowed : (opcodes : Opcodes) (line : ℕ) (ds : List Definition) → faults_of_definitions opcodes ds ≡ []
     → faults_of_definitions opcodes (before line ds) ≡ []
 front_allowed opcodes line [] none = refl
@@ -115,7 +115,7 @@ none_has rate.Init x = refl
 none_has rate.Control x = refl
 none_has rate.Audio x = refl
 
--- a body begins, which has no variables yet
+-- a body begins without variables
 pub body_begins : (h g : Shared) → h ≡ g
     → Mirrors HasNoStop as_it_is 1 no_counts (known_with h no_names) (known_in g no_locals)
 body_begins h g e = record {

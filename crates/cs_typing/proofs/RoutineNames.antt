@@ -1,5 +1,5 @@
--- A body that is typed where it is called, under the names that its variables have there, and typed for itself: in both
--- the same names are known, and the numbers differ by a base.
+-- A body typed where it is called, under the names that its variables have there, and typed separately: the
+-- same names are known in both, and the numbers differ by base numbers.
 use Rattle.std.proofs.Common.{◌≡◌, ◌∙◌, ℕ, suc, ◌+◌, ◌≤◌, ◌<◌, Bool, true, false, if◌then◌else◌, List, [], ◌∷◌, map}
 use Rattle.std.proofs.Common.{Option, Some, None, arith, refl, sym, ap, subst}
 use Rattle.std.specs.{Option.is_some, Option.unwrap_or, Str.bytes_eq}
@@ -21,6 +21,7 @@ use Rattle.cs_typing.proofs.Later.{added_on, added_in, added_place, place_in_on}
 use Rattle.cs_base.specs.declared.resource.Rate.TheVariants as rate
 use Rattle.cs_typed.specs.declared.tree.Var.TheVariants as variant
 
+-- every name
 abbrev pub Any : List ℕ → Type 0
 Any x = Unit {0}
 
@@ -29,7 +30,8 @@ any x = tt
 
 -- ---- the names of a body where it is called
 
--- The names that the variables of a body have, those of P, where calls in it have frames from a number on.
+-- The names that the variables of a body have, for the names that satisfy P; the calls in it have frames from
+-- number f on.
 pub record Owns (P : List ℕ → Type 0) (own : List ℕ → List ℕ) (f : ℕ) : Type 0 where
   pub rate : (x : List ℕ) → name_rate (own x) ≡ name_rate x
   pub local : (x : List ℕ) → is_global (own x) ≡ is_global x
@@ -67,9 +69,10 @@ frame_owns f g lt = record {
     by : (h : ℕ) → g ≤ h → f ≡ h → ⊥
     by h le e = omega (arith, lt, le, e)
 
--- ---- what is known in both
+-- ---- the names known in both
 
--- The variables of the body that are given are known where it is called, each at its number behind a base.
+-- The assigned variables of the body are known where it is called, each with its number increased by the
+-- base.
 pub record Sees (P : List ℕ → Type 0) (own : List ℕ → List ℕ) (base : PerRate ℕ) (n : KnownHere)
     (k : KnownInBody) : Type 0 where
   pub shared : n.shared ≡ k.shared
@@ -77,7 +80,7 @@ pub record Sees (P : List ℕ → Type 0) (own : List ℕ → List ℕ) (base : 
   pub place : (x : List ℕ) → P x → is_global x ≡ false → has_local k.locals x ≡ true
       → place_in n.locals (own x) ≡ at_rate base (name_rate x) + number_in k.locals x
 
--- And the next variable has the next number; and no name is given of a frame from a number on.
+-- In addition, the next variable has the next number, and no name of a frame from number f on is assigned.
 pub record Mirrors (P : List ℕ → Type 0) (own : List ℕ → List ℕ) (f : ℕ) (base : PerRate ℕ) (n : KnownHere)
     (k : KnownInBody) : Type 0 where
   pub sees : Sees P own base n k
@@ -162,7 +165,7 @@ module _ {P : List ℕ → Type 0} {own : List ℕ → List ℕ} {f : ℕ} (o : 
       by true h = m.sees.place x p e h
       by false h = place_fresh x p e h ∙ ap (λ j. at_rate base (name_rate x) + j) (sym (number_new k.locals x h))
 
-  -- a variable that is given, known before or not
+  -- an assigned variable, whether or not it was known before
   pub variable_given : (x : List ℕ) → P x → variable n (own x) ≡ moved_variable base (variable_in k x)
   variable_given x p = variable_at o base n k m.sees.shared x (place_same x p)
 
@@ -239,7 +242,7 @@ mirrors_all_given P own f o base n k m (x ∷ xs) p =
     mirrors_all_given P own f o base (given n (own x)) (known_in k.shared (given_in k.locals x))
     (mirrors_given o base n k m x p.0) xs p.1
 
--- what all bodies know changes in both
+-- the shared names change in both
 pub with_shared : (P : List ℕ → Type 0) (own : List ℕ → List ℕ) (f : ℕ) (base : PerRate ℕ) (n : KnownHere)
     (k : KnownInBody) → Mirrors P own f base n k → (g h : Shared) → g ≡ h
     → Mirrors P own f base (known_with g n.locals) (known_in h k.locals)
@@ -249,9 +252,9 @@ with_shared P own f base n k m g h e = record {
   free = m.free;
 }
 
--- ---- names of others
+-- ---- names of other bodies
 
--- Later too, where none of the body's names is given in between.
+-- The facts still hold later, if none of the body's names is assigned in between.
 pub sees_later : (P : List ℕ → Type 0) (own : List ℕ → List ℕ) (base : PerRate ℕ) (n m : KnownHere) (k : KnownInBody)
     (g : Shared) → Sees P own base n k → Later n m → m.shared ≡ g
     → ((x : List ℕ) → P x → is_global x ≡ false → in_table m.locals (own x) ≡ in_table n.locals (own x))
@@ -263,7 +266,7 @@ sees_later P own base n m k g s l e stays = record {
       place_in_on n.locals m.locals (own x) l.locals (s.has x p d ∙ h) ∙ s.place x p d h;
 }
 
--- a name that is given is none of these
+-- assigning another name changes nothing for a name
 pub given_other : (t : RateNames) (x y : List ℕ) → (y ≡ x → ⊥) → in_table (after_giving t x) y ≡ in_table t y
 given_other t x y h = by (is_global x)
   where

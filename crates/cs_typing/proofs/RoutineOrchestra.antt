@@ -1,4 +1,4 @@
--- An orchestra as it is written and the same expanded: they break the same rule first, and have one typed form.
+-- An orchestra as written and its expansion: they break the same rule first, and have the same typed form.
 use Rattle.std.proofs.Common.{◌≡◌, ◌∙◌, ℕ, List, [], ◌∷◌, ◌++◌, map, nat_lt, Bool, true, false, if◌then◌else◌}
 use Rattle.std.proofs.Common.{append_assoc, Option, Some, None, refl, sym, ap, subst}
 use Rattle.std.specs.{List.All, Option.option_or}
@@ -30,7 +30,7 @@ use Rattle.cs_typing.proofs.RoutineNames.{as_it_is_owns, Mirrors}
 use Rattle.cs_grammar.specs.declared.scope.Place.TheVariants as place
 use Rattle.cs_grammar.specs.declared.tree.Callee.TheVariants as callee
 
--- ---- outside instruments no defined opcode is called
+-- ---- no user-defined opcode is called outside instruments
 
 mutual
   none_called : (x : Statement) → faults no_opcodes true x ≡ []
@@ -47,7 +47,7 @@ mutual
   none_called_arms (otherwise b) = none_called_block b
   none_called_arms (arm c b rest) = λ i. none_called_block b i ++ none_called_arms rest i
 
--- what is known outside instruments, of the text and of the expansion
+-- the names known outside instruments, in the text and in the expansion
 abbrev pub Stands : KnownHere → KnownInBody → Type 0
 Stands n k = Mirrors HasNoStop as_it_is 1 no_counts n k
 
@@ -77,7 +77,7 @@ outside_meets n k s b named =
     (λ q. block_fault_in q no_routines k b) (typed_block_in no_routines k b)) (same_block 1 b)
     (block_meets no_opcodes no_routines none_match no_counts 1 (as_it_is_owns 1) n k s b named (none_called_block b)))
 
--- ---- statements in front of a line and from it on
+-- ---- statements before a line and from it on
 
 front_named : (P : List ℕ → Type 0) (line : ℕ) (b : Block) → NamedBlock P b → NamedBlock P (before line b)
 front_named P line no_stmt h = tt
@@ -98,7 +98,7 @@ rest_named P line (andthen x rest) h = by (rest_named P line rest h.1) (nat_lt (
 
 -- ---- the parts
 
--- behind the parts the same is known, they break the same rule first, and the same is made of them
+-- after the parts, the same names are known, the same rule is broken first, and the typed forms are the same
 record PartsMeet (ds : List Definition) (ch : ℕ) (n : KnownHere) (k : KnownInBody) (stmts : Block)
     (is : List Instrument) : Type 0 where
   known : Stands (known_items n (items stmts (map (expanded_instrument ds) is)))
@@ -110,7 +110,7 @@ record PartsMeet (ds : List Definition) (ch : ℕ) (n : KnownHere) (k : KnownInB
       ≡ after_parts ds k m (items stmts is)
 
 module _ (ds : List Definition) (ch : ℕ) (sound : faults_of_definitions no_opcodes ds ≡ []) where
-  -- an instrument of the text, whose calls are not refused
+  -- an instrument of the text whose calls are not refused
   abbrev Fits : Instrument → Type 0
   Fits i = (faults_in (opcodes_before i.line ds) true i.body ≡ []) × NamedBlock HasNoStop i.body
 
@@ -172,7 +172,7 @@ module _ (ds : List Definition) (ch : ℕ) (sound : faults_of_definitions no_opc
             (sym (append_assoc m.instrs (instrument_in ds k1 i ∷ []) instrs) j)) ∙ more.form made inner.1;
       }
 
--- ---- the whole
+-- ---- the entire orchestra
 
 pub no_uppermost : (fs : List OrcFault) → uppermost fs ≡ None → fs ≡ []
 no_uppermost [] h = refl

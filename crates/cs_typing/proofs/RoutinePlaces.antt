@@ -1,4 +1,4 @@
--- Routines by the places of their definitions: what is found where a name is called.
+-- Routines by the indices of their definitions: the routine that is found where a name is called.
 use Rattle.std.proofs.Common.{◌≡◌, ◌∙◌, ℕ, List, map, take, nat_lt, Some, None, refl, sym, ap}
 use Rattle.std.specs.List.{prefix_len}
 use Rattle.cs_grammar.specs.{declared.tree.Callee.Callee, declared.tree.Arg.Arg}
@@ -12,13 +12,13 @@ use Rattle.cs_typing.specs.{Calls.call_fault_by, Settings.at}
 use Rattle.cs_udo.proofs.DefinitionsFound.{found, unfound}
 use Rattle.cs_grammar.specs.declared.tree.Callee.TheVariants as callee
 
--- those in front of a line
+-- the routines of the definitions before a line
 pub routines_here : (line : ℕ) (ds : List Definition) (n : ℕ) → n ≡ prefix_len (λ d. nat_lt d.line line) ds
     → with_routines no_routines (take n ds) ≡ routines_before line ds
 routines_here line ds n e =
     ap (λ k. with_routines no_routines (take k ds)) e ∙ sym (ap (with_routines no_routines) (before_first line ds))
 
--- what is called, by what the library finds
+-- the called opcode, by the library's result
 pub routine_unfound : (ds : List Definition) (visible : ℕ) (c : Callee) → IsFound ds visible c None
     → routine_called (with_routines no_routines (take visible ds)) c ≡ None
 routine_unfound ds visible (callee.Opcode o) h = refl
@@ -31,7 +31,7 @@ routine_found ds visible (callee.Opcode o) f h = absurd h
 routine_found ds visible (callee.Name x) f h =
     found routine_of no_routines ds visible f.place x (definition f.definition.now) refl h.1 h.0 h.2
 
--- the first rule that a call of no definition breaks, by copies of its results and arguments
+-- the first rule that a call without a definition breaks, by copies of its results and arguments
 pub unfound_fault : (s : Setting) (rs : Routines) (k : KnownInBody) (stmt : Statement) (line : ℕ)
     (xs ys : List (List ℕ)) (c : Callee) (args zs : List Arg) → stmt ≡ call line xs c (map argument args)
     → routine_called rs c ≡ None → ys ≡ xs → zs ≡ args

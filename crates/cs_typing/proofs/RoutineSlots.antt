@@ -1,4 +1,4 @@
--- What stands beside the body of a routine, by numbers alone: slots, inputs, results.
+-- The assignments around the body of a routine, stated with numbers of variables: slots, inputs, results.
 use Rattle.std.proofs.Common.{◌≡◌, ◌∙◌, ℕ, ◌+◌, ◌≤◌, Bool, true, false, not, ◌&&◌, ◌||◌, if◌then◌else◌, List, [], ◌∷◌}
 use Rattle.std.proofs.Common.{length, map, Option, Some, None, arith, refl, sym, ap, subst}
 use Rattle.std.specs.{List.All, Option.is_some, Option.option_or, Option.unwrap_or, Str.bytes_eq}
@@ -32,7 +32,7 @@ use Rattle.cs_grammar.specs.declared.scope.Place.TheVariants as place
 use Rattle.cs_typed.specs.TypedTree as typed
 use Rattle.cs_typed.specs.declared.tree.Var.TheVariants as variant
 
--- ---- statements behind others
+-- ---- statements after others
 
 module _ (rs : Routines) where
   pub locals_joins : (l : Locals) (a b : Block)
@@ -106,7 +106,7 @@ module _ (rs : Routines) where
     arms_no_slots l h (arm c b rest) p =
         arms_no_slots (locals_after_block rs l b) (block_no_slots l h b p.1) rest p.2
 
--- ---- expressions that read names of a text alone
+-- ---- expressions that read only names from a text
 
 module _ (P : List ℕ → Type 0) where
   reads_alike : (v w : List ℕ → Bool) → ((x : List ℕ) → P x → v x ≡ w x) → (e : Expression) → Named P e
@@ -133,7 +133,8 @@ module _ (P : List ℕ → Type 0) where
 
 -- ---- slots by names and by numbers
 
--- the same numbers of all names of a text, and as many are taken; no slot from a place on has a number
+-- the names from a text have the same numbers in both, the counts are equal, and no slot from index n on has
+-- a number
 record SlotsFrom (n : ℕ) (l m : Locals) : Type 0 where
   pub counts : l.counts ≡ m.counts
   pub number : (x : List ℕ) → HasNoStop x → l.number x ≡ m.number x
@@ -203,8 +204,8 @@ AllHave l (y ∷ ys) = (has_local l y ≡ true) × AllHave l ys
 itself : (x : List ℕ) → bytes_eq x x ≡ true
 itself x = (bytes_eq-Decides x x).1 refl
 
--- behind the assignments of slots, by names and by numbers: the first rule that is broken, the typed form, how many
--- numbers are taken, and that each slot has its number
+-- after the assignments of slots, by names and by numbers: the same first broken rule, the same typed form,
+-- the same counts, and a number for each slot
 record SlotsMeet (rs : Routines) (g : Shared) (line n : ℕ) (l m : Locals) (outs : List Rate) (args : List Argument)
     : Type 0 where
   fault : (q : Setting) → block_fault_in q rs (known_in g l) (assignments line (slots n outs) args)
@@ -256,7 +257,7 @@ module _ (rs : Routines) (g : Shared) (line : ℕ) where
 
 -- ---- results and inputs
 
--- local variables all of them
+-- all names are local
 abbrev pub AllLocal : List (List ℕ) → Type 0
 AllLocal [] = Unit {0}
 AllLocal (x ∷ xs) = (is_global x ≡ false) × AllLocal xs
@@ -303,7 +304,7 @@ module _ (r : Routine) where
       (inputs_form k line xs args h.1 i)
   inputs_form k line xs args h = refl
 
--- ---- a definition of a text
+-- ---- a definition from a text
 
 values_named : (args : List Argument) → All WellFormedValue args → NamedArguments HasNoStop args
 values_named [] h = tt
@@ -365,7 +366,7 @@ module _ (rs : Routines) (d : Definition) (well : WellFormedDefinition d) where
   abbrev pub behind_body : Shared → KnownInBody
   behind_body g = known_in (shared_after_block rs g d.body) body_locals
 
-  -- its slots, behind its body
+  -- its slots, after its body
   meet : (g : Shared) → SlotsMeet rs g d.line 0 body_locals body_locals d.outs d.result
   meet g =
       slots_meet rs g d.line 0 body_locals body_locals begins d.outs d.result (values_named d.result well.each_value)
@@ -405,7 +406,7 @@ module _ (rs : Routines) (d : Definition) (well : WellFormedDefinition d) where
   pub body_have : AllHave (routine_of rs d).last (slots 0 d.outs)
   body_have = subst (λ z. AllHave z (slots 0 d.outs)) (sym last_is) (meet nothing_shared).have
 
-  -- results of a call, by their numbers
+  -- the results of a call, by their numbers
   pub call_results_fault : (s : Setting) (g : Shared) (line : ℕ) (xs : List (List ℕ))
       → results_fault s g (routine_of rs d) line xs (slots 0 d.outs) ≡ taken_fault s line xs d.outs
   call_results_fault s g line xs = results_taken (routine_of rs d) s g line xs 0 d.outs body_have

@@ -1,5 +1,5 @@
--- A routine once more, with more that bodies share: it breaks no rule, its typed form is the same, and nothing is
--- shared that wasn't before.
+-- A routine used again, after more names are shared: it breaks no rule, its typed form is the same, and it
+-- adds no shared name.
 use Rattle.std.proofs.Common.{◌≡◌, ◌∙◌, ℕ, Bool, true, false, not, if◌then◌else◌, List, [], ◌∷◌, map, Option, Some}
 use Rattle.std.proofs.Common.{None, refl, sym, ap, subst}
 use Rattle.std.specs.{Option.option_or, Str.bytes_eq}
@@ -35,7 +35,7 @@ use Rattle.cs_typed.specs.TypedTree as typed
 use Rattle.cs_typed.specs.declared.tree.Var.TheVariants as variant
 use Rattle.cs_typing.specs.declared.known.Channel.TheVariants as channel
 
--- No name is that of a channel of either kind.
+-- No name is a channel of both kinds.
 pub record Apart (g : Shared) : Type 0 where
   pub sound : (t : List ℕ) → has g.control t ≡ true → has g.sound t ≡ false
 
@@ -46,16 +46,18 @@ control_free g a t h = by (has g.control t) refl
     by true e = absurd (cc (sym h ∙ a.sound t e))
     by false e = refl
 
--- Once more, where more is shared: no rule is broken, nothing new is shared, and the typed form is as it was.
+-- Used again, with more shared names: no rule is broken, no shared name is added, and the typed form is
+-- unchanged.
 pub record Again {F : Type 0} (h : Shared) (fault : Option OrcFault) (shared : Shared) (now was : F) : Type 0 where
   pub sound : fault ≡ None
   pub same : shared ≡ h
   pub form : now ≡ was
 
+-- a routine used again, with the shared names h after g
 abbrev pub IsAgain : Routine → Setting → Shared → Shared → Type 0
 IsAgain r s g h = Again h (r.fault s h) (r.shared h) (r.block h) (r.block g)
 
--- What a routine does with more that is shared.
+-- The behaviour of a routine when more names are shared.
 pub record Steady (r : Routine) : Type 0 where
   pub on : (g : Shared) → SharedGoesOn g (r.shared g)
   pub apart : (s : Setting) (g : Shared) → Apart g → r.fault s g ≡ None → Apart (r.shared g)
@@ -66,6 +68,7 @@ abbrev IsSteady : Option Routine → Type 0
 IsSteady None = Unit {0}
 IsSteady (Some r) = Steady r
 
+-- each of the routines behaves in this way
 abbrev pub AllSteady : Routines → Type 0
 AllSteady rs = (name : List ℕ) → IsSteady (rs name)
 
@@ -73,7 +76,7 @@ at_callee : (rs : Routines) → AllSteady rs → (c : Callee) → IsSteady (rout
 at_callee rs m (callee.Opcode o) = tt
 at_callee rs m (callee.Name name) = m name
 
--- ---- global variables alone are read
+-- ---- only global variables are read
 
 knows_again : (g h : Shared) (l : Locals) → h.globals ≡ g.globals → knows_in (known_in h l) ≡ knows_in (known_in g l)
 knows_again g h l e = λ i x. if is_global x then in_table (e i) x else has_local l x
@@ -83,7 +86,7 @@ variable_again : (g h : Shared) (l : Locals) → h.globals ≡ g.globals
 variable_again g h l e = λ i x. if is_global x then variant.Global (global (name_rate x) (place_in (e i) x))
     else variant.Local (name_rate x) (number_in l x)
 
--- ---- a channel again
+-- ---- a channel that is used again
 
 clash_again : (g h : Shared) → Apart h → (role : Option Channel) (t : List ℕ) → SharedGoesOn (use_channel g role t) h
     → clashes h role t ≡ false
@@ -103,7 +106,7 @@ use_again g h (Some channel.Sound) t on =
     let there = seen_there h.sound t (has_on (seen g.sound t) h.sound t on.sound (seen_is_there g.sound t)) in
     λ i. record { globals = h.globals; control = h.control; sound = there i }
 
--- what is used keeps the kinds apart, where it doesn't clash
+-- using a channel without a clash keeps the kinds separate
 one_is : (xs : List (List ℕ)) (t u : List ℕ) (b : Bool) → bytes_eq u t ≡ b → has (seen xs t) u ≡ true
     → (has xs u ≡ true → false ≡ true) → u ≡ t
 one_is xs t u true e h none = (bytes_eq-Decides u t).0 e
@@ -321,7 +324,7 @@ module _ (rs : Routines) (m : AllSteady rs) where
           arms_apart (shared_after_block rs g b) (block_apart g a l b more.0) (locals_after_block rs l b) line rest
           more.1
 
-    -- where more is shared
+    -- with more shared names
     module _ (h : Shared) (a : Apart h) where
       mutual
         stmt_again : (g : Shared) (l : Locals) (x : Statement) → SharedGoesOn (shared_after rs g x) h
@@ -422,13 +425,14 @@ all_steady rs m (d ∷ ds) = all_steady (with_routine rs d) (one_steady rs m d) 
 pub none_steady : AllSteady no_routines
 none_steady name = tt
 
--- ---- a definition that is typed, and one that is typed for the first time
+-- ---- a definition that has been typed, and one that is typed for the first time
 
--- where all its channels are used before, it breaks no rule with more, does the same, and uses no new channel
+-- if all its channels have been used before, then with more shared names it breaks no rule, does the same,
+-- and uses no new channel
 module _ (r : Routine) (m : Steady r) (s : Setting) (g : Shared) (none : r.fault s g ≡ None) where
   pub again_from : (h : Shared) → Apart h → r.shared g ≡ g → SharedGoesOn g h → IsAgain r s g h
   again_from h a e on = m.again s g h a (subst (λ z. SharedGoesOn z h) (sym e) on) none
 
-  -- behind its first call
+  -- after its first call
   pub first_again : Apart g → IsAgain r s g (r.shared g)
   first_again a = m.again s g (r.shared g) (m.apart s g a none) (shared_stays (r.shared g)) none

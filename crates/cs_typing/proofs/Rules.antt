@@ -1,4 +1,4 @@
--- What a call keeps that breaks no rule, and what an assignment and a condition keep.
+-- Facts that hold if a call, an assignment or a condition breaks no rule.
 use Rattle.std.proofs.Common.{◌≡◌, ◌==◌, ℕ, Bool, true, false, not, ◌&&◌, ◌||◌, if◌then◌else◌, List, length, Option}
 use Rattle.std.proofs.Common.{Some, None, refl}
 use Rattle.std.specs.List.{list_all}

@@ -1,5 +1,5 @@
--- Other names of the same rates: the rates, the kinds and the use of what they stand in stay, and typed forms differ in
--- their variables alone.
+-- Renaming to names of the same rates: rates, kinds and uses are unchanged, and typed forms differ only in
+-- their variables.
 use Rattle.std.proofs.Common.{◌≡◌, ◌∙◌, ℕ, ◌+◌, not, ◌&&◌, ◌||◌, if◌then◌else◌, List, [], ◌∷◌, ◌++◌, map, Option, Some}
 use Rattle.std.proofs.Common.{None, ◌==◌, nat_lt, refl, ap}
 use Rattle.std.proofs.lemmas.List.{length-map}
@@ -24,7 +24,7 @@ use Rattle.cs_words.specs.declared.word.Func.TheVariants as func
 use Rattle.cs_grammar.specs.declared.tree.Callee.TheVariants as callee
 use Rattle.cs_typed.specs.TypedTree as typed
 
--- other names of the same rates
+-- a renaming to names of the same rates
 pub record KeepsRates (own : List ℕ → List ℕ) : Type 0 where
   pub rate : (x : List ℕ) → name_rate (own x) ≡ name_rate x
 
@@ -140,7 +140,7 @@ module _ {own : List ℕ → List ℕ} (same : KeepsRates own) where
   call_rate_kept sh [] args = ap (λ q. if is_starting sh then rate.Init else q) (plain_rate_kept sh args)
   call_rate_kept sh (x ∷ results) args = ap (λ q. if is_starting sh then rate.Init else q) (same.rate x)
 
-  -- the typed forms: those of the first names, with the variables of the other names
+  -- the typed form of renamed text is the typed form with the variables of the new names
   pub expression_renamed : (v : Variables) (e : Expression)
       → expression_by v (renamed_expression own e) ≡ expression_by (λ x. v (own x)) e
   expression_renamed v (var x) = ap (λ r. typed.var r (v (own x))) (same.rate x)

@@ -1,4 +1,4 @@
--- A definition at its first call: what its body and its slots answer, put together.
+-- A definition at its first call: the results for its body and its slots together.
 use Rattle.std.proofs.Common.{◌≡◌, ◌∙◌, ◌<◌, ◌++◌, ℕ, List, [], ◌∷◌, Some, None, length, slice_get, slice_set, Vec}
 use Rattle.std.proofs.Common.{Global, refl, sym, ap, subst}
 use Rattle.std.specs.{List.All, Option.option_or}
@@ -17,13 +17,13 @@ use Rattle.cs_typing.proofs.RoutineSteady.{Apart}
 use Rattle.cs_typing.proofs.TypedOnce.{now_fault, now_listed, now_longer, now_typed, set_here, set_other}
 use Rattle.cs_typed.specs.TypedTree as typed
 
--- what holds of all definitions holds of the one at a place
+-- a property of all definitions holds for the one at an index
 pub well_at : (ds : List Definition) (place : ℕ) (d : Definition) → All WellFormedDefinition ds
     → slice_get ds place ≡ Some d → WellFormedDefinition d
 well_at ds place d h at =
     subst WellFormedDefinition (get_or_from_slice_get ds place d d at) (h place d (slice_get_within ds place d at))
 
--- it has its routine, which is the last of a longer table, and all that is typed stays so
+-- it has its routine, which is the last one of a longer table, and everything typed remains valid
 pub record IsTypedThen (s : Setting) (ds : List Definition) (place : ℕ) (d : Definition) (g h : Shared)
     (b c : RoutineTable) : Type 0 where
   pub listed : IsListed c place (routine_of (routines_of ds place) d) g

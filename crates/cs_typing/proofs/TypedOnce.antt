@@ -1,4 +1,4 @@
--- A definition that is typed where it is first called, and one that was typed before.
+-- A definition that is typed at its first call, and one that was typed before.
 use Rattle.std.proofs.Common.{◌≡◌, ◌∙◌, ◌+◌, ◌<◌, ◌++◌, ◌≢◌, ◌==◌, ℕ, Bool, true, false, List, [], ◌∷◌, Option, Some}
 use Rattle.std.proofs.Common.{None, zero, suc, Bor, length, map, slice_get, slice_set, Vec, Global, refl, sym, ap}
 use Rattle.std.proofs.Common.{arith, IfSome, subst}
@@ -20,7 +20,7 @@ use Rattle.cs_typing.proofs.{RoutineSlots.first_locals, Walked.first_steady}
 use Rattle.cs_typing.proofs.RoutineSteady.{Apart, IsAgain, Steady, definition_steady, first_again}
 use Rattle.cs_typed.specs.TypedTree as typed
 
--- where something is defined in front, a body of a piece with so many channels stands
+-- statements with a definition before them are inside a body, in a piece with this number of channels
 pub placed_inside : (s : Site) (place : ℕ) → place < s.visible → s.setting ≡ inside s.setting.channels
 placed_inside s place lt =
     let e : s.setting.inside ≡ true = s.placed (omega (arith, lt)) in
@@ -50,14 +50,14 @@ module _ (channels : ℕ) (ds : List Definition) (place : ℕ) (d : Definition) 
     slots = once.slots;
   }
 
--- what is found in a table
+-- the entry that is found in a table
 pub found_it : (o : Option (Bor TypedDefinition)) (t : RoutineTable) (place : ℕ)
     → IfSome o (λ it. slice_get t.by_definition.items place ≡ Some (Some it.now)) → is_some o ≡ true
     → (it : TypedDefinition) × (slice_get t.by_definition.items place ≡ Some (Some it))
 found_it None t place h e = absurd (cc e)
 found_it (Some b) t place h e = (b.now, h)
 
--- a list with another item at a place
+-- a list with another item at an index
 pub set_here : {A : Type 0} (xs : List A) (i : ℕ) (x : A) → i < length xs → slice_get (slice_set xs i x) i ≡ Some x
 set_here [] i x lt = absurd (omega (arith, lt))
 set_here (y ∷ xs) zero x lt = refl
@@ -88,7 +88,7 @@ module _ (s : Setting) (ds : List Definition) (place : ℕ) (d : Definition) (we
   steady : Steady r
   steady = definition_steady rs (first_steady ds place) d
 
-  -- the body and then the slots break no rule
+  -- neither the body nor the slots break a rule
   pub now_fault : block_fault_in s rs (known_in g (first_locals rs d well)) d.body ≡ None
       → slots_fault s (behind_body rs d well g) d.line d.outs d.result ≡ None → r.fault s g ≡ None
   now_fault body slots =
@@ -192,7 +192,7 @@ module _ (s : Setting) (ds : List Definition) (place : ℕ) (d : Definition) (we
             (sym blocks) (typed_on channels (r.shared g) (routine_of (routines_of ds k) x) q (blocks_in b)
             (typed.block (blocks_in b) body.items ∷ []) before)
 
--- ---- what is found
+-- ---- the definition that is found
 
 -- there are as many slots as results
 pub slots_many : (r : Routine) (outs : List Rate) (numbers : List ℕ) → r.results ≡ slots 0 outs
@@ -200,6 +200,6 @@ pub slots_many : (r : Routine) (outs : List Rate) (numbers : List ℕ) → r.res
 slots_many r outs numbers e is =
     ap length is ∙ length-map r.results (number_in r.last) ∙ ap length e ∙ length_slots 0 outs
 
--- one definition is found at a place
+-- at most one definition is found at an index
 pub same_it : (a b : TypedDefinition) → Some (Some a) ≡ Some (Some b) → a ≡ b
 same_it a b e = same_Some a b (same_Some (Some a) (Some b) e)

@@ -1,4 +1,4 @@
--- What holds of the routines that are typed goes on holding, one statement after another.
+-- The invariant of the typed routines is kept, one statement after another.
 use Rattle.std.proofs.Common.{◌≡◌, ◌∙◌, ◌++◌, ℕ, List, [], ◌∷◌, Option, Some, None, take, refl, sym, ap, subst}
 use Rattle.std.specs.Option.{option_or}
 use Rattle.std.proofs.lemmas.List.{append_assoc}
@@ -24,7 +24,7 @@ use Rattle.cs_udo.specs.Library.{definitions_of}
 use Rattle.cs_grammar.specs.Tree as tree
 use Rattle.cs_typed.specs.TypedTree as typed
 
--- ---- with more that is shared
+-- ---- with more shared names
 
 pub first_steady : (ds : List Definition) (n : ℕ) → AllSteady (routines_of ds n)
 first_steady ds n = all_steady no_routines none_steady (take n ds)
@@ -55,7 +55,7 @@ all_typed_later channels ds g h t a on was = record {
   apart = a.sound;
 }
 
--- ---- from place to place
+-- ---- from one point of the text to the next
 
 pub longer_same : (t : RoutineTable) → IsLonger t t
 longer_same t = ([], sym (append_nothing (blocks_in t)))
@@ -74,7 +74,7 @@ ahead_still s a b c p q = record {
   longer = longer_still a.routines b.routines c.routines p.longer q.longer;
 }
 
--- a statement that invokes nothing
+-- a statement that invokes no routine
 pub ahead_alone : (s : Site) (a b : SoFar) (x : Statement) → IsSound s a → b.routines ≡ a.routines
     → fault_in s.setting (routines_at s) (known_of a.names) x ≡ None
     → known_of b.names ≡ known_after (routines_at s) (known_of a.names) x → IsAhead s a b
@@ -93,9 +93,9 @@ ahead_alone s a b x was same none after =
       longer = subst (λ (t : RoutineTable). IsLonger a.routines t) (sym same) (longer_same a.routines);
     }
 
--- ---- statements that are made
+-- ---- statements that are added
 
--- a typed statement whose form holds whatever routines there are
+-- a typed statement whose form doesn't depend on the routines
 pub one_added : (t : RoutineTable) (old new : List TypedStmt) (y : TypedStmt) (form : typed.Statement)
     → new ≡ old ++ y ∷ [] → ((rs : List typed.Block) → typed.statement rs y ≡ typed.alone form)
     → AddsOver t old new (typed.alone form)
@@ -109,7 +109,7 @@ pub one_added_always : (old new : List TypedStmt) (y : TypedStmt) (form : typed.
 one_added_always old new y form pushed is rs =
     ap (typed.block rs) pushed ∙ one_more rs old y ∙ ap (λ b. typed.then_block (typed.block rs old) b) (is rs)
 
--- some, and then others
+-- some statements, followed by others
 pub added_both : (rs : List typed.Block) (a b c : List TypedStmt) (x y : typed.Block)
     → typed.block rs b ≡ typed.then_block (typed.block rs a) x
     → typed.block rs c ≡ typed.then_block (typed.block rs b) y
@@ -117,7 +117,7 @@ pub added_both : (rs : List typed.Block) (a b c : List TypedStmt) (x y : typed.B
 added_both rs a b c x y p q =
     q ∙ ap (λ z. typed.then_block z y) p ∙ then_again (typed.block rs a) x y
 
--- ---- one statement more: the rest says what the whole says
+-- ---- one more statement: the rest has the same fault and form as the whole
 
 pub rest_fault_in : (s : Setting) (rs : Routines) (k m : KnownInBody) (list rest : List OrcStmt) (x : OrcStmt)
     → list ≡ x ∷ rest → fault_in s rs k (tree.statement x) ≡ None → m ≡ known_after rs k (tree.statement x)
@@ -148,9 +148,11 @@ rest_typed_in rs bs k m list rest x done more e made after =
 
 -- ---- arms
 
+-- the mirror of an arm's condition
 abbrev pub cond_of : Arm → tree.Expression
 cond_of a = tree.expression (out-Arm a).cond
 
+-- the mirror of an arm's statements
 abbrev pub body_of : Arm → Block
 body_of a = tree.block (out-Arm a).body.items
 
@@ -183,12 +185,12 @@ rest_arms_typed_in rs bs k m els list rest a done more y e pushed cond body afte
     ∙ (λ i. with_arms bs done (typed.arm (cond i) (body i) (typed_arms_in rs (after i) (tree.arms els rest))))
     ∙ sym (ap (λ xs. with_arms bs done (typed_arms_in rs k (tree.arms els xs))) e)
 
--- a fault of the first two is one of the three
+-- a fault of the first two is a fault of the three
 sooner : (a b c : Option OrcFault) (f : OrcFault) → option_or a b ≡ Some f → option_or a (option_or b c) ≡ Some f
 sooner (Some g) b c f e = e
 sooner None b c f e = ap (λ g. option_or g c) e
 
--- a fault of the first arm is that of all
+-- a fault of the first arm is the fault of all arms
 pub first_arm_fault_in : (s : Setting) (rs : Routines) (k : KnownInBody) (line : ℕ) (els : Block)
     (list rest : List Arm) (a : Arm) (f : OrcFault) → list ≡ a ∷ rest → arm_fault_in s rs k line a ≡ Some f
     → arms_fault_in s rs k line (tree.arms els list) ≡ Some f

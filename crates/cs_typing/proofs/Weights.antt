@@ -1,5 +1,5 @@
--- How much is left to do where a definition is gone through at a call of it: what stands in a definition weighs less
--- than the definitions in front of any place behind it.
+-- A measure of the work that is left when a definition is processed at a call of it: the body of a definition
+-- weighs less than the definitions before any later point.
 use Rattle.std.proofs.Common.{◌≡◌, ◌+◌, ◌<◌, ℕ, zero, suc, List, [], ◌∷◌, length, slice_get, take, get_or, Some, ap}
 use Rattle.std.proofs.Common.{arith}
 use Rattle.std.proofs.lemmas.Option.{none-some, same_Some}
@@ -22,16 +22,16 @@ abbrev mutual
   weight_of_arms (otherwise b) = 1 + weight_of b
   weight_of_arms (arm c b rest) = 2 + weight_of b + weight_of_arms rest
 
--- definitions
+-- the weight of definitions
 abbrev pub weight_of_all : List Definition → ℕ
 weight_of_all [] = 0
 weight_of_all (d ∷ ds) = 1 + weight_of d.body + weight_of_all ds
 
--- those in front of a place
+-- the weight of the definitions before an index
 abbrev pub weight_before : List Definition → ℕ → ℕ
 weight_before ds k = weight_of_all (take k ds)
 
--- a definition at a place weighs less than those in front of a later one
+-- a definition weighs less than the definitions before a later index
 pub lighter : (ds : List Definition) (k n : ℕ) (d : Definition) → k < n → slice_get ds k ≡ Some d
     → weight_before ds k + weight_of d.body < weight_before ds n
 lighter [] k n d lt e = absurd (none-some d e)
@@ -42,7 +42,7 @@ lighter (c ∷ ds) zero (suc n) d lt e =
 lighter (c ∷ ds) (suc k) (suc n) d lt e =
     let rest = lighter ds k n d (omega (arith, lt)) e in omega (arith, rest)
 
--- a statement weighs less than the block in which it stands
+-- a statement weighs less than the block that contains it
 pub stmt_lighter : (list : List OrcStmt) (i : ℕ) (x : OrcStmt) → i < length list → x ≡ get_or list i x
     → weight (tree.statement x) < weight_of (tree.block list)
 stmt_lighter [] i x lt e = absurd (omega (arith, lt))
@@ -52,7 +52,7 @@ stmt_lighter (y ∷ list) zero x lt e =
 stmt_lighter (y ∷ list) (suc i) x lt e =
     let rest = stmt_lighter list i x (omega (arith, lt)) e in omega (arith, rest)
 
--- arms by themselves
+-- the weight of the bodies of arms
 abbrev pub weight_of_bodies : List Arm' → ℕ
 weight_of_bodies [] = 1
 weight_of_bodies (a ∷ rest) = 2 + weight_of (tree.block (out-Arm a).body.items) + weight_of_bodies rest

@@ -1,4 +1,4 @@
--- What an orchestra without a fault becomes agrees with the rules of rates.
+-- The typed form of an orchestra without a fault agrees with the rules of rates.
 use Rattle.std.proofs.Common.{◌≡◌, None}
 use Rattle.cs_grammar.specs.Tree.{Orchestra}
 use Rattle.cs_typed.specs.WellRated.{IsWellRated}

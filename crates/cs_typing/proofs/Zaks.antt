@@ -1,4 +1,4 @@
--- What is known after several `zakinit`s.
+-- The data after several `zakinit`s.
 use Rattle.std.proofs.Common.{◌≡◌, ℕ, ◌+◌, ◌<◌, length, get_or, drop, sym, true, false, if◌then◌else◌, List, [], ◌∷◌}
 use Rattle.std.proofs.Common.{◌++◌, Option, Some, None, ap, ◌∙◌, refl}
 use Rattle.std.specs.Option.{option_or}
@@ -7,12 +7,12 @@ use Rattle.cs_base.specs.declared.fault.OrcFault.{OrcFault}
 use Rattle.cs_typing.specs.{declared.zak.Zaks.Zaks, inner.Settled.after_zak, inner.Settled.after_zaks}
 use Rattle.cs_typing.specs.Settings.{at, Zak, zak_fault, zaks_fault, sizes, no_spaces, zak_spaces}
 
--- what is left of a list, and what is left after its first
+-- the rest of a list is its first item, followed by the rest after it
 pub dropped : {A : Type 0} (xs : List A) (i : ℕ) (x : A) → i < length xs → x ≡ get_or xs i x
     → drop i xs ≡ x ∷ drop (i + 1) xs
 dropped xs i x lt e = drop_more xs i x lt ∙ ap (λ y. y ∷ drop (i + 1) xs) (sym e)
 
--- the `zakinit`s of one list, and then those of another
+-- the `zakinit`s of two lists, one after the other
 pub after_both : (s : Zaks) (xs ys : List Zak) → after_zaks s (xs ++ ys) ≡ after_zaks (after_zaks s xs) ys
 after_both s [] ys = refl
 after_both s (z ∷ xs) ys = after_both (after_zak s z) xs ys
@@ -35,7 +35,7 @@ spaces_after s [] seen = refl
 spaces_after s (z ∷ zs) seen =
     spaces_after (after_zak s z) zs refl ∙ ap (λ b. if b then s.spaces else sizes z.args) seen
 
--- before any
+-- the data before any `zakinit`
 abbrev pub none_seen : Zaks
 none_seen = record { seen = false; fault = None; spaces = no_spaces }
 

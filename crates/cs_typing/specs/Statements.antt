@@ -1,4 +1,4 @@
--- Statements: the first rule that they break, what is known after them, and their typed form.
+-- Statements: the first rule that they break, the names known after them, and their typed form.
 use Rattle.std.specs.Prelude.{ℕ, Bool, true, not, List, ◌&&◌, ◌||◌, Option, Some, None, if◌then◌else◌}
 use Rattle.std.specs.Option.{option_or}
 use Rattle.cs_base.specs.{Rates.is_init, Rates.within, declared.fault.OrcKind.OrcKind, declared.resource.Rate.Rate}
@@ -13,29 +13,31 @@ use Rattle.cs_typing.specs.Known.{KnownHere, knows, given, variable}
 use Rattle.cs_base.specs.declared.fault.OrcKind.TheVariants as orc
 use Rattle.cs_typed.specs.TypedTree as typed
 
--- a value that a variable may take
+-- a value that a variable may be assigned
 abbrev pub may_set : Setting → List ℕ → Expression → Bool
 may_set s name e = is_value e && within (rate_of e) (name_rate name) && (s.inside || is_init (name_rate name))
 
--- the first rule that an assignment breaks, by which names are known
+-- the first rule that an assignment breaks, depending on which names are known
 abbrev pub set_fault_by : Setting → (List ℕ → Bool) → List ℕ → Expression → Option OrcKind
 set_fault_by s is_known name e =
     if not (reads_by is_known e) then Some orc.Undefined
     else (if not (may_set s name e) then Some orc.RateMismatch else None)
 
+-- the first rule that an assignment breaks at this point of the text
 abbrev pub set_fault : Setting → KnownHere → List ℕ → Expression → Option OrcKind
 set_fault s n name e = set_fault_by s (knows n) name e
 
--- the first rule that the condition of an `if` breaks, by which names are known
+-- the first rule that the condition of an `if` breaks, depending on which names are known
 abbrev pub condition_fault_by : Setting → (List ℕ → Bool) → Expression → Option OrcKind
 condition_fault_by s is_known e =
     if not (reads_by is_known e) then Some orc.Undefined
     else (if not (is_condition e && (s.inside || is_init (rate_of e))) then Some orc.RateMismatch else None)
 
+-- the first rule that the condition of an `if` breaks at this point of the text
 abbrev pub condition_fault : Setting → KnownHere → Expression → Option OrcKind
 condition_fault s n e = condition_fault_by s (knows n) e
 
--- what is known after statements; an `if` gives what any of its arms gives
+-- the names known after statements; an `if` assigns every variable that any of its arms assigns
 abbrev mutual
   pub known : KnownHere → Statement → KnownHere
   known n (set line name e) = given n name
@@ -50,8 +52,8 @@ abbrev mutual
   known_arms n (otherwise b) = known_block n b
   known_arms n (arm c b rest) = known_arms (known_block n b) rest
 
--- The first rule that statements break, in the order of the text. The condition of an arm is judged at its place, after
--- the bodies of the arms before it, and its fault has the line of the `if`.
+-- The first rule that statements break, in the order of the text. The condition of an arm is checked in its
+-- place, after the bodies of the earlier arms, and its fault has the line of the `if`.
 abbrev mutual
   pub fault : Setting → KnownHere → Statement → Option OrcFault
   fault s n (set line name e) = at line (set_fault s n name e)

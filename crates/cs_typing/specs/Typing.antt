@@ -11,10 +11,11 @@ use Rattle.cs_typing.specs.Settings.{header, settings_fault, zaks_of_block, zak_
 use Rattle.cs_typing.specs.Statements.{block_fault, known_block, typed_block}
 use Rattle.cs_typed.specs.TypedTree as typed
 
--- the global variables that statements give, after those before
+-- the global variables after one more was assigned; a local one is ignored
 abbrev pub given_global : RateNames → List ℕ → RateNames
 given_global t name = if is_global name then added t name else t
 
+-- the global variables after several were assigned
 abbrev pub given_globals : RateNames → List (List ℕ) → RateNames
 given_globals t [] = t
 given_globals t (name ∷ names) = given_globals (given_global t name) names
@@ -33,24 +34,27 @@ abbrev mutual
   globals_of_arms t (otherwise b) = globals_of_block t b
   globals_of_arms t (arm c b rest) = globals_of_arms (globals_of_block t b) rest
 
+-- the global variables after those that instruments assign
 abbrev pub globals_of_instruments : RateNames → List Instrument → RateNames
 globals_of_instruments t [] = t
 globals_of_instruments t (i ∷ rest) = globals_of_instruments (globals_of_block t i.body) rest
 
--- the global variables of an orchestra, those of the code outside instruments first
+-- the global variables of an orchestra, beginning with those that the code outside instruments assigns
 abbrev pub all_globals : Orchestra → RateNames
 all_globals o = globals_of_instruments (globals_of_block no_names o.zero) o.instrs
 
+-- the line of a statement
 abbrev pub line_of : Statement → ℕ
 line_of (set line name e) = line
 line_of (call line results callee args) = line
 line_of (choose line list) = line
 
--- the statements in front of a line, and those from it on
+-- the statements before a line
 abbrev pub before : ℕ → Block → Block
 before line no_stmt = no_stmt
 before line (andthen x rest) = if nat_lt (line_of x) line then andthen x (before line rest) else no_stmt
 
+-- the statements from a line on
 abbrev pub from : ℕ → Block → Block
 from line no_stmt = no_stmt
 from line (andthen x rest) = if nat_lt (line_of x) line then from line rest else andthen x rest
@@ -65,30 +69,35 @@ abbrev pub items : Block → List Instrument → List Item
 items outside [] = alone outside ∷ []
 items outside (i ∷ rest) = alone (before i.line outside) ∷ body i ∷ items (from i.line outside) rest
 
--- An instrument has its own local variables. Channels go on from part to part.
+-- An instrument begins without local variables. Channels carry over from part to part.
 abbrev pub entered : KnownHere → KnownHere
 entered n = known_with n.shared no_names
 
+-- the names known after an instrument: its shared names, and the local variables outside
 abbrev pub left : KnownHere → KnownHere → KnownHere
 left n m = known_with m.shared n.locals
 
+-- the names known after a part
 abbrev pub known_item : KnownHere → Item → KnownHere
 known_item n (alone b) = known_block n b
 known_item n (body i) = left n (known_block (entered n) i.body)
 
+-- the names known after several parts
 abbrev pub known_items : KnownHere → List Item → KnownHere
 known_items n [] = n
 known_items n (x ∷ rest) = known_items (known_item n x) rest
 
+-- the first rule that a part breaks
 abbrev pub item_fault : ℕ → KnownHere → Item → Option OrcFault
 item_fault channels n (alone b) = block_fault (outside channels) n b
 item_fault channels n (body i) = block_fault (inside channels) (entered n) i.body
 
+-- the first rule that parts break
 abbrev pub items_fault : ℕ → KnownHere → List Item → Option OrcFault
 items_fault channels n [] = None
 items_fault channels n (x ∷ rest) = option_or (item_fault channels n x) (items_fault channels (known_item n x) rest)
 
--- what is known at the beginning: every global variable
+-- the names known at the beginning: every global variable
 abbrev pub first_known : Orchestra → KnownHere
 first_known o = first_with (all_globals o)
 
@@ -98,12 +107,13 @@ type_fault o =
     option_or (settings_fault o.head o.zero)
     (items_fault (header o.head).nchnls (first_known o) (items o.zero o.instrs))
 
--- the typed statements outside instruments, all together
+-- the typed statements of all parts outside instruments
 abbrev pub typed_outside : KnownHere → List Item → typed.Block
 typed_outside n [] = typed.no_stmt
 typed_outside n (alone b ∷ rest) = typed.then_block (typed_block n b) (typed_outside (known_block n b) rest)
 typed_outside n (body i ∷ rest) = typed_outside (known_item n (body i)) rest
 
+-- the typed form of an instrument
 abbrev pub typed_instrument : KnownHere → Instrument → typed.Instrument
 typed_instrument n i = record {
   line = i.line;
@@ -117,7 +127,7 @@ typed_instruments n [] = []
 typed_instruments n (alone b ∷ rest) = typed_instruments (known_block n b) rest
 typed_instruments n (body i ∷ rest) = typed_instrument n i ∷ typed_instruments (known_item n (body i)) rest
 
--- what notes share, by name
+-- the names of shared variables and channels
 abbrev pub shared_names : Shared → typed.SharedNames
 shared_names s = record { variables = s.globals; control = s.control; sound = s.sound }
 
@@ -131,10 +141,11 @@ typed_of o = record {
   globals = shared_names (known_items (first_known o) (items o.zero o.instrs)).shared;
 }
 
--- an orchestra, judged: its first fault, or its typed form
+-- the result for an orchestra: its first fault, or its typed form
 abbrev pub judged : Option OrcFault → typed.Orchestra → Result typed.Orchestra OrcFault
 judged (Some fault) typed_orchestra = Err fault
 judged None typed_orchestra = Ok typed_orchestra
 
+-- the typed form of an orchestra, or its first fault
 abbrev pub typing : Orchestra → Result typed.Orchestra OrcFault
 typing o = judged (type_fault o) (typed_of o)

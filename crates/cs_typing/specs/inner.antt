@@ -1,4 +1,4 @@
--- What only clauses of private functions cite.
+-- Definitions that only private clauses use.
 pub mod Answers
 pub mod Globals
 pub mod Held

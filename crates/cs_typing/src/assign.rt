@@ -1,4 +1,4 @@
-// Assignments: what a variable may take, and their typed form.
+// Assignments: the values that a variable may be assigned, and the typed form.
 ghost use Rattle.std.specs.Prelude.{ℕ, ◌≡◌, List, OnOk};
 ghost use Rattle.cs_words.specs.Names.{name_rate};
 ghost use Rattle.cs_grammar.specs.Tree as tree;
@@ -28,7 +28,7 @@ pub struct Target {
     pub var: Var,
 }
 
-/// Judges an assignment to a variable, and adds its typed form.
+/// Checks an assignment to a variable, and adds its typed form.
 pub fn set<'t>(
     setting: Setting,
     names: &KnownNames<'t>,
@@ -57,7 +57,7 @@ pub fn set<'t>(
     Ok(())
 }
 
-/// `name = e`: judges it, and adds its typed form; the name is given from then on.
+/// Checks `name = e` and adds its typed form; from then on the name is known.
 pub fn set_name<'t>(
     setting: Setting,
     names: &mut KnownNames<'t>,

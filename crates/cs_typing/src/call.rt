@@ -1,4 +1,5 @@
-// Calls of opcodes: how many arguments, what each may be, which channel is used, and the typed form.
+// Calls of opcodes: the number of arguments, the form of each argument, the channel that is used, and the
+// typed form.
 ghost use Rattle.std.specs.Prelude.{◌≡◌, ◌++◌, IfOk, List, OnOk, map};
 ghost use Rattle.std.specs.List.{list_all};
 ghost use Rattle.cs_base.specs.declared.fault.Or.TheVariants as or;
@@ -42,7 +43,7 @@ fn all_fit(row: &Signature, bound: Rate, args: &[Arg]) -> bool
     true
 }
 
-// The rate of the result, which bounds arguments; no result bounds nothing.
+// The rate of the result, which limits the rates of the arguments; without a result there is no limit.
 fn bound_of(results: &[Name]) -> Rate
     ensures { result ≡ bound_of results.now }
 {
@@ -85,7 +86,7 @@ fn any_sound(args: &[Arg]) -> bool
     false
 }
 
-// A table is stored to sample by sample, or else at values that are held.
+// Whether both arguments of a table store are a-rate, or neither is.
 fn is_even(shape: Shape, args: &[Arg]) -> bool
     ensures { result ≡ is_even shape (map argument args.now) }
 {
@@ -95,7 +96,7 @@ fn is_even(shape: Shape, args: &[Arg]) -> bool
     }
 }
 
-// What may stand outside instruments.
+// Whether an opcode is allowed outside instruments.
 fn stands_outside(shape: Shape) -> bool
     ensures { result ≡ stands_outside shape }
 {
@@ -124,7 +125,7 @@ fn channel_use(shape: Shape, results: &[Name], args: &[Arg]) -> Option<Channel>
     }
 }
 
-// The first text among the arguments.
+// The first text among the arguments; empty if there is none.
 fn text_of(args: &[Arg]) -> &[u8]
     ensures { result.now ≡ text_of (map argument args.now) }
 {
@@ -156,7 +157,8 @@ fn all_known<'t>(names: &KnownNames<'t>, args: &[Arg]) -> bool
     true
 }
 
-// Whether arguments and results have the rates that the row allows, and the opcode may stand here.
+// Whether arguments and results have the rates that the row allows, and the opcode is allowed in this
+// context.
 fn rates_agree(setting: Setting, row: &Signature, results: &[Name], args: &[Arg]) -> bool
     ensures { result ≡ rates_agree setting row.now results.now (map argument args.now) }
 {
@@ -166,7 +168,7 @@ fn rates_agree(setting: Setting, row: &Signature, results: &[Name], args: &[Arg]
         && (setting.inside || stands_outside(row.shape()))
 }
 
-/// The first rule that a call of an opcode breaks.
+/// Returns the first rule that a call of an opcode breaks, or `None` if it breaks none.
 pub fn row_fault<'t>(
     setting: Setting,
     names: &KnownNames<'t>,
@@ -195,7 +197,7 @@ pub fn row_fault<'t>(
     }
 }
 
-// A text, or a value that is known when the note begins.
+// Whether an argument is a text, or a value that is known when the note begins.
 fn is_still(arg: &Arg) -> bool
     ensures { result ≡ is_still (argument arg.now) }
 {
@@ -229,7 +231,7 @@ fn plain_rate(shape: Shape, args: &[Arg]) -> Rate
     }
 }
 
-/// How often a call is done.
+/// Returns the rate at which a call runs.
 pub fn call_rate(shape: Shape, results: &[Name], args: &[Arg]) -> Rate
     ensures { result ≡ call_rate shape results.now (map argument args.now) }
 {
@@ -317,7 +319,7 @@ fn give_all<'t>(names: &mut KnownNames<'t>, results: &'t [Name]) -> Result<(), O
     Ok(())
 }
 
-/// Judges a call, and gives its typed form; results and the channel are known from then on.
+/// Checks a call, and returns its typed form; from then on its results and its channel are known.
 pub fn call<'t>(
     setting: Setting,
     names: &mut KnownNames<'t>,
@@ -349,7 +351,7 @@ pub fn call<'t>(
     Ok(made)
 }
 
-/// A broken rule at its line.
+/// Returns the fault for a broken rule on a line.
 pub fn broken(line: u32, kind: OrcKind) -> Or<OrcFault>
     ensures { result ≡ or.Fault (record { line = line; kind = kind }) }
 {

@@ -1,4 +1,5 @@
-// Expressions: their rates, whether they are values or conditions, what they read, and their typed form.
+// Expressions: their rates, whether they are values or conditions, the variables that they read, and their
+// typed form.
 ghost use Rattle.std.specs.{Prelude.◌≡◌, Prelude.IfOk, Box.box_value};
 ghost use Rattle.cs_grammar.specs.Tree.{expression};
 ghost use Rattle.cs_typing.specs.Expressions.{rate_of, applied_rate, is_control_name, is_value, is_condition, reads_by};
@@ -12,7 +13,7 @@ use cs_grammar::Expr;
 use cs_typed::{TypedExpr, TypedPart};
 use cs_words::{Func, name_rate};
 
-/// The rate of an expression: the fastest of its parts.
+/// Returns the rate of an expression: the rate of its fastest part.
 pub fn rate_of(e: &Expr) -> Rate
     ensures { result ≡ rate_of (expression e.now) }
 {
@@ -33,7 +34,7 @@ fn is_control_name(e: &Expr) -> bool
     matches!(e, Expr::Var(name) if name_rate(name.as_slice()).is_control())
 }
 
-/// Whether an expression is a value, with values and conditions where they are wanted.
+/// Whether an expression is a value, with values and conditions as operands wherever they are required.
 #[cycle(kinds)]
 pub fn is_value(e: &Expr) -> bool
     ensures { result ≡ is_value (expression e.now) }
@@ -67,7 +68,7 @@ pub fn is_condition(e: &Expr) -> bool
     }
 }
 
-/// Whether every variable that is read is known.
+/// Whether every variable that the expression reads is known.
 pub fn reads_known<'t>(names: &KnownNames<'t>, e: &Expr) -> bool
     ensures { result ≡ reads_by (knows_in (known_of names.now)) (expression e.now) }
 {
@@ -82,7 +83,7 @@ pub fn reads_known<'t>(names: &KnownNames<'t>, e: &Expr) -> bool
     }
 }
 
-/// The typed form of an expression, with its rate beside each part.
+/// Returns the typed form of an expression, with the rate of each part.
 #[cycle(typed)]
 pub fn typed_expression<'t>(names: &KnownNames<'t>, e: &Expr) -> Result<TypedExpr, OutOfMemory>
     ensures form { IfOk result (λ made. typed.expression made

@@ -1,5 +1,6 @@
-// The global variables of an orchestra, in the order in which statements first give them: those outside instruments
-// first. What a defined opcode gives is given where it is first called, so each definition is looked through once.
+// The global variables of an orchestra, in the order in which statements first assign them, beginning with
+// the statements outside instruments. A variable that a user-defined opcode assigns counts as assigned at its
+// first call, so each definition is searched once.
 ghost use Rattle.std.specs.Prelude.{◌≡◌, OnOk, IfOk, map, true};
 ghost use Rattle.cs_grammar.specs.Tree as tree;
 ghost use Rattle.cs_typing.specs.Typing.{given_global, given_globals, all_globals};
@@ -14,14 +15,14 @@ use cs_udo::{Expansion, Library};
 use cs_words::is_global;
 use std::alloc::Global;
 
-/// The global variables so far, and for each definition whether its own are among them.
+/// The global variables so far, and for each definition whether its variables are among them.
 #[derive(Drop)]
 pub struct GivenGlobals<'t> {
     names: NamesByRate<'t>,
     done: Vec<bool>,
 }
 
-/// The definitions that stand in front of a part of the text.
+/// The definitions before a part of the text.
 #[derive(Clone, Copy)]
 pub struct Front<'l, 't> {
     library: &'l Library<'t>,
@@ -68,7 +69,8 @@ fn globals_of_stmt<'t>(
     }
 }
 
-// Those of what is called, where it is a defined opcode that wasn't looked through.
+// Adds the global variables that the called opcode assigns, if it is user-defined and hasn't been searched
+// yet.
 #[cycle(globals)]
 fn globals_of_callee<'t>(
     given: &mut GivenGlobals<'t>,
@@ -110,7 +112,7 @@ fn globals_of_block<'t>(
     Ok(())
 }
 
-// Those of instruments, each with what is defined in front of it.
+// Adds the global variables that instruments assign, each with the definitions before it.
 fn globals_of_instruments<'t>(
     given: &mut GivenGlobals<'t>,
     library: &Library<'t>,
@@ -130,7 +132,8 @@ fn globals_of_instruments<'t>(
     Ok(())
 }
 
-/// The global variables that statements of an orchestra give, and those of the definitions that they call.
+/// Returns the global variables that the statements of an orchestra assign, including the variables of the
+/// definitions that they call.
 pub fn globals_of<'t>(
     alloc: Global,
     expansion: &Expansion<'t>,

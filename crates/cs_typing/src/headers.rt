@@ -1,4 +1,4 @@
-// Header lines: their ranges, their equation, and what holds for the whole piece.
+// Header lines: their ranges, the equation between them, and the settings for the entire piece.
 ghost use Rattle.std.specs.Prelude.{◌≡◌, ◌≤◌, ◌<◌, ◌^◌, ◌<ℤ◌, pos, [], Some, None};
 ghost use Rattle.cs_words.specs.declared.word.HeadName.TheVariants as head;
 ghost use Rattle.cs_typing.specs.Settings.{raw_of, whole, is_whole_to, is_above_zero, in_range, same_head};
@@ -10,7 +10,7 @@ use cs_base::{GREATEST_KSMPS, GREATEST_SR, Head, MOST_CHANNELS, Num, ONE, OrcFau
 use cs_grammar::HeadLine;
 use cs_words::HeadName;
 
-// The 65,536ths of a number, or 0 where it is negative.
+// The raw value of a number in 65,536ths, or 0 if it is negative.
 fn raw_of(value: Num) -> u64
     ensures value { result ≡ raw_of value }
     ensures bounded { result < 2 ^ 47 }
@@ -22,7 +22,7 @@ fn raw_of(value: Num) -> u64
     }
 }
 
-/// The whole of a number, or 0 where it lies below 0.
+/// Returns the integer part of a number, or 0 if it is negative.
 pub fn whole(value: Num) -> u32
     ensures value { result ≡ whole value }
     ensures bounded { result < 2 ^ 31 }
@@ -30,7 +30,7 @@ pub fn whole(value: Num) -> u32
     (raw_of(value) / ONE as u64) as u32
 }
 
-/// Whether a number is whole, from 1 to the greatest.
+/// Whether a number is an integer from 1 to `most`.
 pub fn is_whole_to(most: u32, value: Num) -> bool
     ensures { result ≡ is_whole_to most value }
 {
@@ -38,7 +38,7 @@ pub fn is_whole_to(most: u32, value: Num) -> bool
     raw % ONE as u64 == 0 && 1 <= raw / ONE as u64 && raw / ONE as u64 <= u64::from(most)
 }
 
-// Whether a header line may give a value; `kr` is judged with the others.
+// Whether a header line may have this value; `kr` is checked later, against the other settings.
 fn in_range(name: HeadName, value: Num) -> bool
     ensures { result ≡ in_range name value }
 {
@@ -57,7 +57,7 @@ fn same_head(a: HeadName, b: HeadName) -> bool
     a == b
 }
 
-// The first rule that a header line breaks, after those before it.
+// The first rule that a header line breaks, given the earlier header lines.
 #[tactic(auto, using(crate::proofs::Ranges::given))]
 fn header_fault(before: &[HeadLine], line: HeadLine) -> Option<OrcKind>
     ensures { result ≡ header_fault before.now line }
@@ -71,7 +71,8 @@ fn header_fault(before: &[HeadLine], line: HeadLine) -> Option<OrcKind>
     }
 }
 
-/// The first rule that header lines break. It is found at the sixth line or before, since there are five names.
+/// Returns the first rule that header lines break, or `None` if they break none. A fault is found at the
+/// sixth line at the latest, since there are five names.
 pub fn headers_fault(lines: &[HeadLine]) -> Option<OrcFault>
     ensures { result ≡ headers_fault [] lines.now }
 {
@@ -111,7 +112,8 @@ fn value_or(other: Num, line: Option<HeadLine>) -> Num
     line.map_or(other, |line| line.value)
 }
 
-// Frames a control cycle: as `ksmps` gives them, or else sr / kr, which is 0 where kr isn't above 0, or else 10.
+// Frames per control cycle: the value of `ksmps`; without one, sr / kr, which is 0 if kr isn't positive;
+// without either, 10.
 fn ksmps_of(sr: u32, kr: Option<HeadLine>, ksmps: Option<HeadLine>) -> u64
     ensures { result ≡ ksmps_of sr kr ksmps }
 {
@@ -135,14 +137,14 @@ fn cycle(lines: &[HeadLine]) -> u64
     )
 }
 
-// Whether kr * ksmps = sr exactly, with a cycle of a length that is allowed.
+// Whether kr * ksmps = sr exactly, and a cycle has an allowed length.
 fn kr_agrees(sr: u32, ksmps: u64, kr: Num) -> bool
     ensures { result ≡ kr_agrees sr ksmps kr }
 {
     1 <= ksmps && ksmps <= 4096 && raw_of(kr) * ksmps == u64::from(sr) * ONE as u64
 }
 
-/// The rule that `kr` breaks, if it breaks one.
+/// Returns the rule that `kr` breaks, or `None` if it breaks none.
 pub fn kr_fault(lines: &[HeadLine]) -> Option<OrcFault>
     ensures { result ≡ kr_fault (header lines.now) (header_of head.Kr lines.now) }
 {
@@ -158,7 +160,7 @@ pub fn kr_fault(lines: &[HeadLine]) -> Option<OrcFault>
     }
 }
 
-/// What header lines without a fault say together.
+/// Returns the header that results from header lines without a fault.
 pub fn head_of(lines: &[HeadLine]) -> Head
     requires lines { headers_fault [] lines.now ≡ None }
     requires kr { kr_fault (header lines.now) (header_of head.Kr lines.now) ≡ None }

@@ -1,5 +1,5 @@
-// What stands beside the routine of a call: its inputs take the arguments, its slots take what it gives, and the
-// variables of the caller take the results.
+// The assignments around the routine of a call: arguments to inputs, the values of `xout` to slots, and the
+// slots to the caller's variables.
 ghost use Rattle.std.specs.Prelude.{◌≡◌, ◌+◌, IfOk, OnOk, length, map};
 ghost use Rattle.cs_base.specs.Rates.{at_rate};
 ghost use Rattle.cs_grammar.specs.Tree as tree;
@@ -22,18 +22,18 @@ use cs_grammar::{Arg, Expr, Udo};
 use cs_typed::{Setting, TypedExpr, TypedPart, TypedStmt, TypedStmts, TypedWhat, Var};
 use cs_words::name_rate;
 
-/// A call of a defined opcode.
+/// A call of a user-defined opcode.
 #[derive(Clone, Copy)]
 pub struct Invocation<'t> {
     pub line: u32,
     pub results: &'t [Name],
     pub args: &'t [Arg],
     pub definition: &'t Udo,
-    /// How many numbers of each rate its caller has taken.
+    /// The number of variables of each rate that the caller has used so far.
     pub base: PerRate<usize>,
 }
 
-/// The variables of a definition once its inputs are given.
+/// Returns the local variables of a definition after its inputs have been assigned.
 pub fn inputs_of<'t>(names: &KnownNames<'t>, definition: &'t Udo) -> Result<Scope<'t>, OutOfMemory>
     ensures { IfOk result (λ l. locals_of l ≡ all_given_in no_locals definition.now.names) }
 {
@@ -44,7 +44,7 @@ pub fn inputs_of<'t>(names: &KnownNames<'t>, definition: &'t Udo) -> Result<Scop
     Ok(made)
 }
 
-// A variable of the routine as its caller numbers it.
+// A variable of the routine with its number in the caller.
 fn moved(base: PerRate<usize>, rate: Rate, number: usize) -> Result<Target, OutOfMemory>
     ensures rate { IfOk result (λ t. t.rate ≡ rate) }
     ensures var { IfOk result (λ t. t.var ≡ Local rate (at_rate base rate + number)) }
@@ -55,7 +55,7 @@ fn moved(base: PerRate<usize>, rate: Rate, number: usize) -> Result<Target, OutO
     })
 }
 
-/// Judges that the inputs take the arguments, and adds the assignments.
+/// Checks that the arguments can be assigned to the inputs, and adds the assignments.
 pub fn give_inputs<'t>(
     setting: Setting,
     names: &KnownNames<'t>,
@@ -83,8 +83,8 @@ pub fn give_inputs<'t>(
     Ok(())
 }
 
-/// Judges that the slots of the results take the values of `xout`, and adds the assignments; returns the slots'
-/// numbers.
+/// Checks that the values of `xout` can be assigned to the slots of the results, and adds the assignments;
+/// returns the slots' numbers.
 pub fn give_slots<'t>(
     setting: Setting,
     names: &mut KnownNames<'t>,
@@ -142,8 +142,8 @@ fn give_slot<'t>(
     Ok(number)
 }
 
-/// Judges that variables of the caller take the results from the slots of these numbers, and adds the assignments; they
-/// are given from then on.
+/// Checks that the results in the slots with these numbers can be assigned to variables of the caller, and
+/// adds the assignments; from then on these variables are known.
 pub fn give_results<'t>(
     setting: Setting,
     names: &mut KnownNames<'t>,
@@ -170,7 +170,7 @@ pub fn give_results<'t>(
     Ok(())
 }
 
-// `name` takes what another variable has: judges it, and adds the assignment.
+// Assigns one variable to another, `name`: checks it, and adds the assignment.
 fn take<'t>(
     setting: Setting,
     names: &KnownNames<'t>,

@@ -1,4 +1,4 @@
-// What is known at a place of the text: names of variables and of channels, each with its number.
+// The names known at a point of the text: variables and channels, each with its number.
 ghost use Rattle.std.specs.Prelude.{◌≡◌, ◌+◌, OnOk, IfOk};
 ghost use Rattle.cs_typing.specs.Known.{no_names, of_rate, in_table, place_in, added, first_with, clashes, channel_of};
 ghost use Rattle.cs_typing.specs.{Known.use_channel, Known.global, Typing.shared_names};
@@ -15,15 +15,15 @@ use std::collections::BTreeMap;
 use std::marker::Model;
 use std::mem::swap;
 
-/// What kind a channel is: of control values, or of sounds.
+/// The kind of a channel: k-rate or a-rate.
 #[derive(Clone, Copy)]
 pub enum Channel {
     Control,
     Sound,
 }
 
-// The sum of two numbers of local variables. One that doesn't fit would be reported as out of memory; none is met,
-// since an expanded body has at most `MOST_STATEMENTS` statements.
+// Adds two counts of local variables. A sum that doesn't fit would be reported as out of memory; this never
+// happens, since an expanded body has at most `MOST_STATEMENTS` statements.
 fn plus(a: usize, b: usize) -> Result<usize, OutOfMemory>
     ensures { IfOk result (λ n. n ≡ a + b) }
 {
@@ -42,8 +42,8 @@ fn one_more(counts: PerRate<usize>, rate: Rate) -> Result<PerRate<usize>, OutOfM
     Ok(more)
 }
 
-/// The local variables that a body has so far: the number of each among those of its rate, and how many numbers of each
-/// rate are taken, those of what it calls among them.
+/// The local variables of a body so far: the number of each among the variables of its rate, and the count of
+/// numbers used at each rate, including the variables of the bodies that it calls.
 #[derive(Drop)]
 pub struct Scope<'t> {
     numbers: BTreeMap<&'t [u8], usize>,
@@ -51,7 +51,7 @@ pub struct Scope<'t> {
 }
 
 impl<'t> Scope<'t> {
-    /// No variables.
+    /// Returns a scope without variables.
     pub fn new(alloc: Global) -> Scope<'t>
         ensures { locals_of result ≡ no_locals }
     {
@@ -71,14 +71,14 @@ impl<'t> Scope<'t> {
         self.numbers.get(name).copied()
     }
 
-    /// Whether a variable is given.
+    /// Whether a local variable is known.
     pub fn has(&self, name: &[u8]) -> bool
         ensures { result ≡ has_local (locals_of self.now) name.now }
     {
         self.given_number(name).is_some()
     }
 
-    /// The number of a variable; a new one has the next of its rate.
+    /// Returns the number of a variable; a new one has the next number of its rate.
     pub fn number(&self, name: &[u8]) -> usize
         ensures { result ≡ number_in (locals_of self.now) name.now }
     {
@@ -86,7 +86,7 @@ impl<'t> Scope<'t> {
             .unwrap_or(self.counts.of(name_rate(name)))
     }
 
-    /// Notes that a variable is given: a local one is among the body's own from now on.
+    /// Records that a variable is assigned: from now on a local one belongs to the body.
     pub fn give(&mut self, name: &'t [u8]) -> Result<(), OutOfMemory>
         ensures { OnOk result (locals_of self.new ≡ given_in (locals_of self.old) name.now) }
     {
@@ -101,7 +101,7 @@ impl<'t> Scope<'t> {
         Ok(())
     }
 
-    /// Takes the next number of a rate, for a variable that no name of the text has.
+    /// Reserves the next number of a rate, for a variable without a name in the text.
     pub fn take_one(&mut self, rate: Rate) -> Result<(), OutOfMemory>
         ensures { OnOk result (locals_of self.new ≡ one_counted (locals_of self.old) rate) }
     {
@@ -109,7 +109,7 @@ impl<'t> Scope<'t> {
         Ok(())
     }
 
-    /// Takes some numbers of each rate, for the variables of a body that is called.
+    /// Reserves `counts` variable numbers of each rate for a body that is called.
     pub fn take(&mut self, counts: PerRate<usize>) -> Result<(), OutOfMemory>
         ensures { OnOk result (locals_of self.new ≡ past_call (locals_of self.old) counts) }
     {
@@ -121,7 +121,7 @@ impl<'t> Scope<'t> {
         Ok(())
     }
 
-    /// How many numbers of each rate are taken.
+    /// Returns the count of numbers used at each rate.
     pub fn counts(&self) -> PerRate<usize>
         ensures { result ≡ (locals_of self.now).counts }
     {
@@ -129,7 +129,7 @@ impl<'t> Scope<'t> {
     }
 }
 
-/// Names of variables by their rates, each list in the order in which they were first given.
+/// Names of variables by rate, each list in the order of first assignment.
 #[derive(Drop)]
 pub struct NamesByRate<'t>(PerRate<NameSet<'t>>);
 
@@ -142,7 +142,7 @@ impl<'t> Model for NamesByRate<'t> {
 }
 
 impl<'t> NamesByRate<'t> {
-    /// No names.
+    /// Returns empty lists of names.
     pub fn new(alloc: Global) -> NamesByRate<'t>
         ensures { result ≡ no_names }
     {
@@ -153,7 +153,7 @@ impl<'t> NamesByRate<'t> {
         })
     }
 
-    /// The names of a rate.
+    /// Returns the names of variables of a rate.
     pub fn of_rate(&self, rate: Rate) -> &NameSet<'t>
         ensures { result.now ≡ of_rate rate self.now }
     {
@@ -164,21 +164,21 @@ impl<'t> NamesByRate<'t> {
         }
     }
 
-    /// Whether a name is among those of its rate.
+    /// Whether the lists contain a name.
     pub fn has(&self, name: &[u8]) -> bool
         ensures { result ≡ in_table self.now name.now }
     {
         self.of_rate(name_rate(name)).has(name)
     }
 
-    /// The number of a name among those of its rate; a new name has the next.
+    /// Returns the number of a name among the names of its rate; a new name has the next number.
     pub fn place(&self, name: &[u8]) -> usize
         ensures { result ≡ place_in self.now name.now }
     {
         self.of_rate(name_rate(name)).place(name)
     }
 
-    /// Adds a name to those of its rate, unless it is there.
+    /// Adds a name to the names of its rate, unless they contain it.
     pub fn add(&mut self, name: &'t [u8]) -> Result<(), OutOfMemory>
         ensures { OnOk result (self.new ≡ added self.old name.now) }
     {
@@ -200,7 +200,7 @@ impl<'t> NamesByRate<'t> {
     }
 }
 
-/// What all bodies of an orchestra know alike: global variables, and the channels that were used before.
+/// The names that all bodies of an orchestra share: global variables, and the channels that were used so far.
 #[derive(Drop)]
 pub struct Shared<'t> {
     globals: NamesByRate<'t>,
@@ -217,7 +217,7 @@ impl<'t> Model for Shared<'t> {
 }
 
 impl<'t> Shared<'t> {
-    /// Whether a channel was used before as one of the other kind.
+    /// Whether a channel was used before as a channel of the other kind.
     pub fn clashes(&self, role: Option<Channel>, name: &[u8]) -> bool
         ensures { result ≡ clashes self.now role name.now }
     {
@@ -228,7 +228,7 @@ impl<'t> Shared<'t> {
         }
     }
 
-    /// The channel of a name; a new one has the next number.
+    /// Returns the channel with this name; a new one has the next number.
     pub fn channel(&self, kind: Channel, name: &[u8]) -> Var
         ensures { result ≡ channel_of self.now kind name.now }
     {
@@ -238,7 +238,7 @@ impl<'t> Shared<'t> {
         }
     }
 
-    /// Notes that a channel is used, if one is.
+    /// Records that a channel is used, if `role` names a kind.
     pub fn use_channel(&mut self, role: Option<Channel>, name: &'t [u8]) -> Result<(), OutOfMemory>
         ensures { OnOk result (self.new ≡ use_channel self.old role name.now) }
     {
@@ -249,7 +249,7 @@ impl<'t> Shared<'t> {
         }
     }
 
-    /// All names, copied.
+    /// Returns a copy of all names.
     pub fn copied(&self, alloc: Global) -> Result<Globals, OutOfMemory>
         ensures { IfOk result (λ made. typed.shared_names made ≡ shared_names self.now) }
     {
@@ -261,7 +261,8 @@ impl<'t> Shared<'t> {
     }
 }
 
-/// What is known at a place of the text: what all bodies know, and the local variables that the body has so far.
+/// The names known at this point of the text: those that all bodies share, and the body's local variables so
+/// far.
 #[derive(Drop)]
 pub struct KnownNames<'t> {
     alloc: Global,
@@ -270,7 +271,7 @@ pub struct KnownNames<'t> {
 }
 
 impl<'t> KnownNames<'t> {
-    /// These global variables, and nothing else.
+    /// Returns known names that consist only of these global variables.
     pub fn new(alloc: Global, globals: NamesByRate<'t>) -> KnownNames<'t>
         ensures { known_of result ≡ known_in (first_with globals.entry).shared no_locals }
     {
@@ -285,6 +286,7 @@ impl<'t> KnownNames<'t> {
         }
     }
 
+    /// Returns the allocator.
     pub fn alloc(&self) -> Global {
         self.alloc
     }
@@ -300,7 +302,7 @@ impl<'t> KnownNames<'t> {
         }
     }
 
-    /// The variable of a name; a new name has the next number.
+    /// Returns the variable with this name; a new name has the next number.
     pub fn variable(&self, name: &[u8]) -> Var
         ensures { result ≡ variable_in (known_of self.now) name.now }
     {
@@ -312,7 +314,7 @@ impl<'t> KnownNames<'t> {
         }
     }
 
-    /// Exchanges the body's own variables for those of another body.
+    /// Exchanges the body's local variables with another body's.
     pub fn exchange(&mut self, other: &mut Scope<'t>)
         ensures own { known_of self.new ≡ known_in self.old.shared (locals_of other.old) }
         ensures other { locals_of other.new ≡ (known_of self.old).locals }

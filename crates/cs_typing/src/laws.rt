@@ -1,4 +1,4 @@
-// What holds of typed orchestras: calls that do nothing, whose contracts are the laws.
+// Properties of typed orchestras: functions that do nothing, and whose contracts are the laws.
 ghost use Rattle.std.specs.List.{All, IsDistinct, flat_map};
 ghost use Rattle.std.specs.Prelude.{ℕ, ◌≡◌, List, None, eqb};
 ghost use Rattle.cs_grammar.specs.{Tree.Orchestra, Tree.Statement, Tree.Block, WellFormed.IsWellFormed};
@@ -9,28 +9,29 @@ ghost use Rattle.cs_typing.specs.Statements.{known, known_block, fault, block_fa
 ghost use Rattle.cs_typed.specs.TypedTree as typed;
 ghost use Rattle.cs_typed.specs.WellRated.{IsWellRated, BlockHasNoZakinit};
 
-/// What an orchestra without a fault becomes agrees with the rules of rates: each part of an expression changes as
-/// often as its fastest part, an `if` is done once exactly where all its conditions are known when the note begins, the
-/// arguments of a call fit the letters of its opcode's row, and no more sounds go out than the piece has channels.
+/// The typed form of an orchestra without a fault agrees with the rules of rates: each part of an expression
+/// changes as often as its fastest part, an `if` runs once if and only if all its conditions are known when
+/// the note begins, the arguments of a call fit the letters of its opcode's row, and no more audio signals go
+/// out than the piece has channels.
 pub fn typing_is_well_rated()
     ensures { (o : Orchestra) → type_fault o ≡ None → IsWellRated (typed_of o) }
 {}
 
-/// No `zakinit` stands in an instrument of an orchestra that was read.
+/// There is no `zakinit` in an instrument of an orchestra that was read.
 pub fn instruments_have_no_zakinit()
     ensures { (o : Orchestra) → IsWellFormed o → All (λ i. BlockHasNoZakinit i.body) (typed_of o).instrs }
 {}
 
-/// No number is given twice to the instruments of an orchestra that was read: in the typed form too each number is of
-/// one instrument, and stands once in its line. It is what `lower` of the codes asks for.
+/// No two instruments of an orchestra that was read have the same number: in the typed form, too, each number
+/// belongs to one instrument, and appears once in its line. Compiling the codes (`lower`) requires this.
 pub fn numbers_stand_once()
     ensures { (o : Orchestra) → IsWellFormed o
         → IsDistinct eqb (flat_map (λ (i : typed.Instrument). i.numbers) (typed_of o).instrs) }
 {}
 
-/// The names of local variables don't matter: statements with other names for them, of the same rates and never one for
-/// two, have the same typed form and the same fault in what is known by those names, and afterwards the same is known
-/// by those names.
+/// The names of local variables don't matter: if they are renamed to different names of the same rates,
+/// statements have the same typed form and the same fault under the renamed known names, and the names known
+/// afterwards are the renamed ones.
 pub fn local_names_dont_matter()
     ensures typed { (f : List ℕ → List ℕ) → IsRenaming f → (n : KnownHere) → (x : Statement) →
         typed_statement (renamed_known f n) (renamed f x) ≡ typed_statement n x }

@@ -1,18 +1,19 @@
-//! Rates, names and types of an orchestra: the grammar's tree with a variable in place of each name, an opcode in
-//! place of each opcode's name, and a rate beside each expression and each statement.
+//! Rates, names and types of an orchestra: the grammar's tree with a variable instead of each name, an opcode
+//! instead of each opcode name, and a rate for each expression and each statement.
 //!
-//! Its one contract: `type_orc` returns the typed form of the expanded orchestra (cs_udo) as specs/Typing.antt defines
-//! it, or its first broken rule of the kinds 12 to 19 with its line: header lines and `zakinit`s in the order of the
-//! text, then `kr`, and then each statement in the order of the expanded text. What is returned agrees with the rules
-//! of rates (`typing_is_well_rated`), no `zakinit` stands in an instrument (`instruments_have_no_zakinit`), and each
-//! instrument's number stands once (`numbers_stand_once`); `types_worked_by_hand` and `settings_worked_by_hand` are its
-//! rows. How names are looked up, and what is typed once, may be changed without anyone above noticing.
+//! Its one contract: `type_orc` returns the typed form of the expanded orchestra (cs_udo) as defined in
+//! specs/Typing.antt, or its first broken rule of the kinds 12 to 19 with its line: first header lines and
+//! `zakinit`s in the order of the text, then `kr`, and then each statement in the order of the expanded text.
+//! The result agrees with the rules of rates (`typing_is_well_rated`), no instrument has a `zakinit`
+//! (`instruments_have_no_zakinit`), and each instrument number appears once (`numbers_stand_once`);
+//! `types_worked_by_hand` and `settings_worked_by_hand` are its examples. How names are looked up, and which
+//! parts are typed only once, may change without anyone above noticing.
 //!
-//! To be read in this order: `known` (names and their numbers), `expr`, `call`, `assign` (what is judged where it
-//! stands), `routines` and `invoke` (what defined opcodes do, and what stands beside a call
-//! of one), `stmt`, `headers`, `zak` and `settle` (what holds for the whole piece), `globals` (the variables that all
-//! instruments share), `orc` (the parts in the order of the text), `laws`, `examples`. What is made, the typed tree,
-//! is the layer below.
+//! In reading order: `known` (names and their numbers), `expr`, `call`, `assign` (parts that are checked on
+//! their own), `routines` and `invoke` (user-defined opcodes, and the assignments around a call of one),
+//! `stmt`, `headers`, `zak` and `settle` (the settings of the entire piece), `globals` (the variables that
+//! all instruments share), `orc` (the parts in the order of the text), `laws`, `examples`. The result, the
+//! typed tree, is the layer below.
 #![tactic(auto)]
 
 mod assign;

@@ -1,4 +1,4 @@
-// An orchestra: its parts in the order of the text, each instrument with its own variables.
+// An orchestra: its parts in the order of the text, each instrument with its own local variables.
 ghost use Rattle.std.specs.Prelude.{◌≡◌, ◌≤◌, ◌++◌, ◌∷◌, [], List, OnOk, IfOk, length, map, None, Err, nat_lt};
 ghost use Rattle.std.specs.List.{prefix_len};
 ghost use Rattle.cs_base.specs.declared.fault.Or.TheVariants as or;
@@ -25,7 +25,7 @@ use cs_udo::{Expansion, Library};
 use std::alloc::Global;
 use std::mem::replace;
 
-/// What is made of the parts so far: typed statements of the code outside instruments, and typed instruments.
+/// The typed form of the parts so far: the statements outside instruments, and the instruments.
 #[derive(Drop)]
 pub struct Done {
     zero: TypedStmts,
@@ -60,7 +60,7 @@ impl Done {
     }
 }
 
-/// An orchestra that is judged part by part: what is known, and what is made.
+/// An orchestra that is checked part by part: the known names, and the typed form so far.
 #[derive(Drop)]
 pub struct Typing<'t> {
     so_far: SoFar<'t>,
@@ -119,7 +119,7 @@ impl<'t> Typing<'t> {
         Ok(self.made.add_instrument(made)?)
     }
 
-    // Judges the parts of an orchestra in the order of the text, and adds their typed forms.
+    // Checks the parts of an orchestra in the order of the text, and adds their typed forms.
     fn add_parts(
         &mut self,
         channels: u32,
@@ -164,7 +164,7 @@ impl<'t> Typing<'t> {
         })
     }
 
-    // Judges an orchestra whose settings have no fault, where nothing of it is judged yet.
+    // Checks an orchestra whose settings have no fault, of which no part has been checked yet.
     fn typed(
         &mut self,
         settings: Settings,
@@ -181,7 +181,7 @@ impl<'t> Typing<'t> {
     }
 }
 
-// An instrument, which has its own variables.
+// The typed form of an instrument, which has its own local variables.
 fn instrument<'t>(
     channels: u32,
     library: &Library<'t>,
@@ -216,7 +216,7 @@ fn instrument<'t>(
     })
 }
 
-// How many statements stand in front of a line.
+// The number of statements before a line.
 fn before_line(stmts: &[OrcStmt], line: u32) -> usize
     ensures count { result ≡ prefix_len (λ s. nat_lt s.line line) stmts.now }
     ensures within { result ≤ length stmts.now }
@@ -224,11 +224,11 @@ fn before_line(stmts: &[OrcStmt], line: u32) -> usize
     stmts.iter().take_while(|s| s.line < line).count()
 }
 
-/// Judges rates, names and types of an orchestra, as if its calls of defined opcodes were expanded, and gives its typed
-/// form; or its first fault, which is of the kinds 12 to 19. Header lines and `zakinit`s are judged first, then `kr`,
-/// and then each statement in the order of the expanded text.
+/// Checks rates, names and types of an orchestra, as if its calls of user-defined opcodes were expanded, and
+/// returns its typed form, or its first fault, which is of the kinds 12 to 19. Header lines and `zakinit`s
+/// are checked first, then `kr`, and then each statement in the order of the expanded text.
 ///
-/// A definition is judged where it is first called. How often its text is gone through is in no clause.
+/// A definition is checked at its first call. No clause states how often its text is processed.
 pub fn type_orc(alloc: Global, expansion: &Expansion<'_>) -> Result<TypedOrc, Or<OrcFault>>
     requires { IsReady expansion.now }
     ensures typed { IfOk result (λ t. typed.orchestra t

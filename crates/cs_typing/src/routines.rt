@@ -1,4 +1,4 @@
-// The routines of an orchestra: what its defined opcodes do, each typed where it is first called.
+// The routines of an orchestra: the typed bodies of its user-defined opcodes, each typed at its first call.
 ghost use Rattle.std.specs.Prelude.{◌≡◌, ◌++◌, ◌<◌, [], ◌∷◌, true, length, replicate, slice_get, slice_set, None};
 ghost use Rattle.std.specs.Prelude.{IfNone, IfOk, IfSome, OnOk, Some};
 ghost use Rattle.cs_typing.specs.declared.routines.TypedDefinition.{TypedDefinition};
@@ -9,33 +9,34 @@ use cs_typed::{Setting, TypedStmts};
 use cs_udo::Library;
 use std::alloc::Global;
 
-/// A definition that is typed.
+/// A definition that has been typed.
 #[derive(Drop)]
 pub struct TypedDefinition {
-    /// The place of its routine.
+    /// The index of its routine.
     pub routine: usize,
-    /// How many local variables of each rate it has, those of what it calls among them.
+    /// The number of local variables of each rate, including the bodies that it calls.
     pub locals: PerRate<usize>,
-    /// The numbers of the variables that have its results.
+    /// The numbers of the variables that hold its results.
     pub slots: Vec<usize>,
 }
 
-/// The routines so far, and of which definition each is.
+/// The routines so far, and the definition of each.
 #[derive(Drop)]
 pub struct RoutineTable {
     pub list: Vec<TypedStmts>,
-    /// For each definition what is known of it, once it is typed.
+    /// The data about each definition; `None` until it is typed.
     pub by_definition: Vec<Option<TypedDefinition>>,
 }
 
-/// What is known at a place of the text, and the routines so far.
+/// The names known at this point of the text, and the routines so far.
 #[derive(Drop)]
 pub struct SoFar<'t> {
     pub names: KnownNames<'t>,
     pub routines: RoutineTable,
 }
 
-/// Where statements stand: inside an instrument or outside, the definitions, and how many of them stand in front.
+/// The context of statements: whether they are inside an instrument, the definitions, and how many of these
+/// come before the statements.
 #[derive(Clone, Copy)]
 pub struct Site<'l, 't> {
     pub setting: Setting,
@@ -45,7 +46,7 @@ pub struct Site<'l, 't> {
 }
 
 impl RoutineTable {
-    /// No routines, of some definitions.
+    /// Returns a table without routines, for this number of definitions.
     pub fn new(alloc: Global, definitions: usize) -> Result<RoutineTable, OutOfMemory>
         ensures list { IfOk result (λ t. t.list.items ≡ []) }
         ensures marks { IfOk result (λ t. t.by_definition.items ≡ replicate definitions None) }
@@ -60,7 +61,7 @@ impl RoutineTable {
         })
     }
 
-    /// What is known of a definition that is typed.
+    /// Returns the data about a definition, or `None` if it hasn't been typed.
     pub fn of(&self, definition: usize) -> Option<&TypedDefinition>
         ensures found { IfSome result (λ it. slice_get self.now.by_definition.items definition ≡ Some (Some it.now)) }
         ensures none { IfNone result ((it : TypedDefinition)
@@ -72,7 +73,7 @@ impl RoutineTable {
         }
     }
 
-    /// Adds the routine of a definition that isn't typed.
+    /// Adds the routine of a definition that hasn't been typed.
     pub fn add(
         &mut self,
         definition: usize,

@@ -1,4 +1,4 @@
-// Settings: what header lines and `zakinit`s say, judged before any statement.
+// Settings: the result of header lines and `zakinit`s, which are checked before any statement.
 ghost use Rattle.std.specs.Prelude.{◌≡◌, None, []};
 ghost use Rattle.cs_words.specs.declared.word.HeadName.TheVariants as head;
 ghost use Rattle.cs_grammar.specs.Tree.{block};
@@ -11,14 +11,14 @@ use crate::zak::zaks_of;
 use cs_base::{Head, Or, OrcFault, Spaces};
 use cs_grammar::{HeadLine, OrcStmt};
 
-/// What holds for a whole piece: its header and its zak spaces.
+/// The settings of an entire piece: its header and its zak spaces.
 #[derive(Clone, Copy)]
 pub struct Settings {
     pub head: Head,
     pub spaces: Spaces,
 }
 
-// Whichever of two faults comes first in the text.
+// The earlier of two faults in the text.
 fn earlier(f: Option<OrcFault>, g: Option<OrcFault>) -> Option<OrcFault>
     ensures { result ≡ earlier f g }
 {
@@ -29,7 +29,8 @@ fn earlier(f: Option<OrcFault>, g: Option<OrcFault>) -> Option<OrcFault>
     }
 }
 
-/// Judges header lines, the `zakinit`s of statements outside instruments, and `kr`; and gives what they say.
+/// Checks header lines, the `zakinit`s among the statements outside instruments, and `kr`; returns the
+/// resulting settings.
 pub fn judge_settings(lines: &[HeadLine], outside: &[OrcStmt]) -> Result<Settings, Or<OrcFault>>
     ensures { Gives settings_of result (settings_fault lines.now (block outside.now))
         (told (header lines.now) (zak_spaces (zaks_of_block (block outside.now)))) }

@@ -1,5 +1,5 @@
-// Statements: judged in the order of the text, and given their typed form. A defined opcode is typed where it is first
-// called.
+// Statements: checked in the order of the text, and converted to their typed form. A user-defined opcode is
+// typed at its first call.
 ghost use Rattle.std.specs.Prelude.{◌≡◌, ◌<◌, List, OnOk, Some, length, map, slice_get};
 ghost use Rattle.cs_grammar.specs.Tree as tree;
 ghost use Rattle.cs_grammar.specs.declared.tree.Callee.{Callee};
@@ -25,7 +25,7 @@ use cs_base::{Or, OrcFault, OrcKind, PerRate, Rate};
 use cs_grammar::{Arm, Expr, OrcStmt, StmtWhat, Udo};
 use cs_typed::{Setting, TypedArm, TypedExpr, TypedStmt, TypedStmts, TypedWhat};
 
-// The rate of an `if`: it is done once where all its conditions are known when the note begins.
+// The rate of an `if`: it runs once if all its conditions are known when the note begins.
 fn choice_rate(list: &[Arm]) -> Rate
     ensures { (els : tree.Block) → result ≡ choice_rate (tree.arms els list.now) }
 {
@@ -56,7 +56,7 @@ fn condition<'t>(
     Ok(typed_expression(names, e)?)
 }
 
-// Judges a statement, and adds its typed form; what it gives is known from then on.
+// Checks a statement, and adds its typed form; from then on the variables that it assigns are known.
 #[cycle(typing)]
 fn stmt<'t>(
     site: &Site<'_, 't>,
@@ -107,7 +107,7 @@ fn stmt<'t>(
     }
 }
 
-// An `if`, whose line is given.
+// Checks an `if` on line `line`, and returns its typed form.
 #[cycle(typing)]
 fn choice<'t>(
     site: &Site<'_, 't>,
@@ -135,7 +135,8 @@ fn choice<'t>(
     })
 }
 
-// A call of the definition at a place: its inputs are given, its routine is invoked, its results are given.
+// Checks a call of the definition at index `place`, and adds its typed form: assignments to the inputs, an
+// invocation of the routine, and assignments of the results.
 #[cycle(typing)]
 fn invoke<'t>(
     site: &Site<'_, 't>,
@@ -172,7 +173,7 @@ fn invoke<'t>(
     }
 }
 
-// Adds what the routine of a typed definition does at a call; its results are given.
+// Adds the invocation of a typed definition's routine, and the assignments of its results.
 fn give_routine<'t>(
     setting: Setting,
     names: &mut KnownNames<'t>,
@@ -206,7 +207,7 @@ fn invocation(line: u32, routine: usize, base: PerRate<usize>) -> TypedStmt
     }
 }
 
-// Types the definition at a place, unless it is typed.
+// Types the definition at index `place`, unless it has been typed.
 #[cycle(typing)]
 fn typed_routine<'t>(
     site: &Site<'_, 't>,
@@ -244,7 +245,7 @@ fn typed_routine<'t>(
     Ok(so_far.routines.add(place, around.counts(), slots, body)?)
 }
 
-/// Judges statements, and gives their typed forms.
+/// Checks statements, and returns their typed forms.
 #[cycle(typing)]
 pub fn block<'t>(
     site: &Site<'_, 't>,
@@ -266,7 +267,7 @@ pub fn block<'t>(
     Ok(done)
 }
 
-// An arm of an `if`, whose line is given.
+// Checks an arm of an `if` on line `line`, and returns its typed form.
 #[cycle(typing)]
 fn arm<'t>(
     site: &Site<'_, 't>,

@@ -10,18 +10,18 @@ use cs_base::{GREATEST_ZAK_SIZE, OrcFault, OrcKind, Spaces};
 use cs_grammar::{Arg, Arm, Callee, Expr, OrcStmt, StmtWhat};
 use cs_words::Opcode;
 
-/// What is known of the `zakinit`s before a place of the text.
+/// The data about the `zakinit`s before a point of the text.
 #[derive(Clone, Copy)]
 pub struct Zaks {
     /// Whether there is one.
     pub seen: bool,
     /// The first rule that they break.
     pub fault: Option<OrcFault>,
-    /// The zak spaces that the first of them gives.
+    /// The zak spaces that the first of them sets.
     pub spaces: Spaces,
 }
 
-// Whether an argument may be a size: a literal, whole from 1 to 1,000. A text is judged with its statement.
+// Whether an argument may be a size: a literal integer from 1 to 1,000. A text is checked with its statement.
 fn is_size(arg: &Arg) -> bool
     ensures { result ≡ is_size (tree.argument arg.now) }
 {
@@ -43,7 +43,7 @@ fn all_sizes(args: &[Arg]) -> bool
     true
 }
 
-// The first rule that a `zakinit` breaks, where one stands before it or not.
+// The first rule that a `zakinit` breaks; `before` is true if there is an earlier one.
 fn zak_fault(before: bool, line: u32, args: &[Arg]) -> Option<OrcFault>
     ensures { result ≡ at line (zak_fault before (zak_at line (map tree.argument args.now))) }
 {
@@ -62,7 +62,7 @@ fn zak_fault(before: bool, line: u32, args: &[Arg]) -> Option<OrcFault>
     }
 }
 
-// The places that a size gives: from 0 to it.
+// The number of places for a size: places 0 to the size.
 fn places(arg: &Arg) -> u32
     ensures { result ≡ places (tree.argument arg.now) }
 {
@@ -72,13 +72,13 @@ fn places(arg: &Arg) -> u32
     }
 }
 
-/// No places.
+// No places.
 const NO_SPACES: Spaces = Spaces {
     control: 0,
     audio: 0,
 };
 
-// The zak spaces that two sizes give, that of the space of sounds first.
+// The zak spaces for two sizes; the first size is for the a-rate space.
 fn sizes(args: &[Arg]) -> Spaces
     ensures { result ≡ sizes (map tree.argument args.now) }
 {
@@ -145,7 +145,7 @@ fn after_arms(before: Zaks, list: &[Arm]) -> Zaks
     known
 }
 
-/// The `zakinit`s among statements, in `if`s too: their first fault, and the two spaces.
+/// Returns the first fault of the `zakinit`s among statements, including those in `if`s, and the two spaces.
 pub fn zaks_of(outside: &[OrcStmt]) -> Zaks
     ensures fault { result.fault ≡ zaks_fault false (zaks_of_block (tree.block outside.now)) }
     ensures spaces { result.spaces ≡ zak_spaces (zaks_of_block (tree.block outside.now)) }

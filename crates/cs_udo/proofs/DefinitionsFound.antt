@@ -1,4 +1,4 @@
--- What a name is among definitions: what is found where it is called.
+-- A name among definitions: the definition that is found where the name is called.
 use Rattle.std.proofs.lemmas.{Grind.common_steps, Option.none-some, Option.same_Some}
 use Rattle.std.proofs.Common.{◌≡◌, ◌∙◌, ℕ, zero, suc, ◌+◌, ◌<◌, ◌≤◌, min, Bool, cond, true, false, not, if◌then◌else◌}
 use Rattle.std.proofs.Common.{List, [], ◌∷◌, length, take, slice_get, Some, None, arith, refl, ap}

@@ -1,4 +1,4 @@
--- What holds of each defined opcode: it is shown of a definition where it holds of those that this may call.
+-- A property of every user-defined opcode, proved for each definition from the opcodes that it may call.
 use Rattle.std.proofs.Common.{arith, ℕ, List, ◌∷◌, Option, Some, None, []}
 use Rattle.std.proofs.lemmas.Grind.{common_steps}
 use Rattle.cs_grammar.specs.{Tree.Definition, declared.tree.Callee.Callee}

@@ -1,4 +1,4 @@
--- Faults, one after the other.
+-- Faults, one after another.
 use Rattle.std.proofs.lemmas.{Grind.common_steps, Bool.Decides.nat_tests, List.length-map}
 use Rattle.std.proofs.Common.{◌≡◌, ◌∙◌, ◌==◌, ◌&&◌, ◌||◌, ℕ, Bool, true, false, not, nat_le, if◌then◌else◌, List, []}
 use Rattle.std.proofs.Common.{◌∷◌, ◌++◌, length, map, Option, Some, None, arith, refl, ap}
@@ -11,7 +11,7 @@ use Rattle.cs_udo.specs.Refused.{faults_of_definitions, faults_of_instruments, f
 use Rattle.cs_udo.proofs.Weighed.{length_slots}
 use Rattle.cs_base.specs.declared.fault.OrcKind.TheVariants as orc
 
--- the faults of one list, and then those of another
+-- the faults of two lists, one after the other
 pub after_both : (first : Option OrcFault) (xs ys : List OrcFault)
     → after_faults first (xs ++ ys) ≡ after_faults (after_faults first xs) ys
 after_both first [] ys = refl

@@ -1,4 +1,4 @@
--- Each instrument of an orchestra that passes no limit has few statements, once its calls are expanded.
+-- Each instrument of an orchestra that exceeds no limit has few statements after its calls are expanded.
 use Rattle.std.proofs.Common.{◌≡◌, ◌+◌, ◌≤◌, ℕ, List, [], ◌∷◌, length, map, Option, Some, None, Ok, refl, arith, subst}
 use Rattle.std.proofs.Common.{sym}
 use Rattle.std.specs.{List.AllByRecursion as Each, Option.option_or}
@@ -16,7 +16,7 @@ not_hit : (o : Option ℕ) → hit limit.Statements o ≡ None → o ≡ None
 not_hit None e = refl
 not_hit (Some line) e = absurd (none-some (record { limit = limit.Statements; line = line }) (sym e))
 
--- what an instrument within the limit counts
+-- the sum of an instrument's counts is within the limit
 few_statements : (env : Opcodes) (b : Block) → statements_hit env b ≡ None → total (counts_in env b) ≤ 2000
 few_statements env b e = grind (arith, common_steps, not_hit, within_all)
 
@@ -30,10 +30,11 @@ third (Some f) b c e = absurd (none-some f (sym e))
 third None (Some f) c e = absurd (none-some f (sym e))
 third None None c e = e
 
+-- an instrument's statements are within the limit
 abbrev pub HasFew : Instrument → Type 0
 HasFew i = size_of i.body ≤ most_statements
 
--- as many as may be counted before the calls are expanded
+-- an instrument within the limit still is after its calls are expanded
 few_in : (opcodes : Opcodes) → AllFair opcodes → (b : Block) → statements_hit opcodes b ≡ None
     → size_of (expanded_block opcodes as_it_is 1 b) ≤ most_statements
 few_in opcodes fair b e =

@@ -1,4 +1,4 @@
--- Names of variables of frames: two variables of frames have two names, and none is a name of a text.
+-- Names of variables in frames: two variables in frames have different names, and none is a name from a text.
 use Rattle.std.proofs.lemmas.Grind.{common_steps}
 use Rattle.std.proofs.Common.{◌≡◌, ◌∙◌, ℕ, zero, suc, ◌+◌, Bool, true, false, if◌then◌else◌, List, [], ◌∷◌, ◌++◌, map}
 use Rattle.std.proofs.Common.{arith, refl, sym, ap, subst}
@@ -65,7 +65,7 @@ fresh_rate f x = letter_of_rate (name_rate x) (numeral f ++ 46 ∷ x)
 pub fresh_local : (f : ℕ) (x : List ℕ) → is_global (fresh f x) ≡ false
 fresh_local f x = letter_local (name_rate x) (numeral f ++ 46 ∷ x)
 
--- a name with a full stop is no name of a text
+-- a name with a full stop is not a name from a text
 pub stopped : {A : Type 0} (f : ℕ) (x y : List ℕ) → HasNoStop x → x ≡ fresh f y → A
 stopped f x y h e = absurd (by (fresh f y) refl (subst HasNoStop e h))
   where
@@ -94,12 +94,12 @@ slot_rate n r = letter_of_rate r (numeral n)
 pub slot_local : (n : ℕ) (r : Rate) → is_global (slot n r) ≡ false
 slot_local n r = letter_local r (numeral n)
 
--- two slots of two places have two names
+-- two slots with different indices have different names
 pub slot_apart : (n m : ℕ) (r q : Rate) → slot n r ≡ slot m q → n ≡ m
 slot_apart n m r q e =
     binary_apart n m (digits_apart (binary n) (binary m) [] [] (ap (λ l. rest (rest l) ++ 46 ∷ []) e)).0
 
--- a slot is no name of a text
+-- a slot is not a name from a text
 pub no_slot : {A : Type 0} (n : ℕ) (r : Rate) (x : List ℕ) → HasNoStop x → x ≡ slot n r → A
 no_slot n r x h e = absurd (by (slot n r) refl (subst HasNoStop e h))
   where

@@ -1,4 +1,4 @@
--- Where definitions are found.
+-- The indices at which definitions are found.
 use Rattle.std.proofs.lemmas.{Grind.common_steps, Slice.Eq.bytes_eq-Decides, Bool.false_from_ne_true}
 use Rattle.std.proofs.Common.{◌≡◌, ◌∙◌, ◌+◌, ◌<◌, ◌≤◌, ℕ, zero, suc, min, Bool, true, false, ◌||◌, ◌≢◌, ◌++◌, cond}
 use Rattle.std.proofs.Common.{if◌then◌else◌, List, [], ◌∷◌, map, take, drop, get_or, length, slice_get, nat_lt, Some}
@@ -14,18 +14,19 @@ use Rattle.cs_udo.specs.Expanded.{Opcodes, no_opcodes, template, defining, defin
 use Rattle.cs_udo.specs.Library.{opcodes_of, place_among}
 use Rattle.cs_udo.proofs.DefinitionsFound.{found, unfound}
 
--- what is left of a list, and what is left after its first
+-- the rest of a list is its first item, followed by the rest after it
 pub dropped : {A : Type 0} (xs : List A) (i : ℕ) (x : A) → i < length xs → x ≡ get_or xs i x
     → drop i xs ≡ x ∷ drop (i + 1) xs
 dropped xs i x lt e = drop_more xs i x lt ∙ ap (λ y. y ∷ drop (i + 1) xs) (sym e)
 
+-- the names of definitions
 abbrev pub names : List Definition → List (List ℕ)
 names ds = map (λ d. d.name) ds
 
 one_suc : (n : ℕ) → 1 + n ≡ suc n
 one_suc n = omega arith
 
--- those in front of a line are the first ones
+-- the definitions before a line are the first ones
 pub before_first : (line : ℕ) (ds : List Definition)
     → before line ds ≡ take (prefix_len (λ d. nat_lt d.line line) ds) ds
 before_first line [] = refl
@@ -76,7 +77,7 @@ pub found_none : (us : List Udo) (ns : List (List ℕ)) (n k : ℕ) (x : List �
     → k ≡ place_of ns x → min n (length us) ≤ k → opcodes_of (map definition us) n x ≡ None
 found_none us ns n k x named p h = grind (arith, common_steps, length-map, names_are, unfound)
 
--- a name of later definitions is new
+-- a name that differs from all names of a list is new
 no_name : (ys : List (List ℕ)) (x : List ℕ) → ((k : ℕ) → k < length ys → get_or ys k [] ≢ x) → has ys x ≡ false
 no_name [] x h = refl
 no_name (y ∷ ys) x h =
@@ -102,7 +103,7 @@ pub new_name : (us : List Udo) (i : ℕ) (u : Udo) → AreDifferent (map (λ v. 
 new_name us i u different lt e =
     grind (arith, common_steps, front_same, here_name, length-map, length-take-le, map_more, no_name)
 
--- definitions, one after the other
+-- definitions, one after another
 defining_more : (env : Opcodes) (xs : List Definition) (d : Definition)
     → defining_all env (xs ++ d ∷ []) ≡ defining (defining_all env xs) d
 defining_more env [] d = refl

@@ -1,4 +1,4 @@
--- Where no opcode is defined, statements stay as they are.
+-- If no opcode is defined, the expansion leaves statements unchanged.
 use Rattle.std.proofs.Common.{◌≡◌, ℕ, List, [], ◌∷◌, map, refl, ap}
 use Rattle.cs_grammar.specs.{declared.tree.Callee.Callee, Renaming.renamed_expression, Renaming.renamed_argument}
 use Rattle.cs_grammar.specs.Tree.{Expression, neg, pair, pick, apply, Argument, value, text, Statement, set, call}

@@ -1,4 +1,4 @@
--- What calls and definitions count, capped.
+-- The numbers that calls and definitions count as, capped.
 use Rattle.std.proofs.Common.{◌≡◌, ◌∙◌, ◌+◌, ℕ, min, List, [], ◌∷◌, ◌++◌, length, slice_get, slice_index, Some, None}
 use Rattle.std.proofs.Common.{arith, refl, sym, ap}
 use borrow.Author.Count.{below_more}
@@ -13,10 +13,11 @@ use Rattle.cs_udo.proofs.Tallied.{sum_after, passed_after}
 use Rattle.cs_udo.proofs.Weighed.{AllFair, fair_template, call_weight, body_weight, length_slots}
 use Rattle.cs_base.specs.declared.limit.Limit.TheVariants as limit
 
+-- the running count before any statement
 abbrev pub none_counted : RunningCount
 none_counted = record { sum = 0; passed = None }
 
--- a call of a defined opcode
+-- the price of a call of a user-defined opcode
 pub price_is : (env inner : Opcodes) → AllFair inner
     → (d : Definition) (line : ℕ) (xs : List (List ℕ)) (callee : Callee) (args : List Argument)
     (given taken cost result : ℕ) → defined env callee ≡ Some (template inner d)
@@ -36,7 +37,7 @@ price_is env inner fair d line xs callee args given taken cost result found g k 
     ) in
     same ∙ sym (ap (λ o. capped (call_count line xs callee args o)) found)
 
--- a definition
+-- the cost of a definition
 pub cost_is : (env : Opcodes) → AllFair env → (d : Definition) (t : RunningCount) (given result : ℕ)
     → t ≡ after_counts none_counted (counts_in env d.body)
     → given ≡ capped (size_of (assignments d.line (slots 0 d.outs) d.result)) → result ≡ capped (t.sum + given)

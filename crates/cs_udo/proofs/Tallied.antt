@@ -1,4 +1,4 @@
--- Counts, one after the other.
+-- Counts, one after another.
 use Rattle.std.proofs.lemmas.{Grind.common_steps, Bool.Decides.nat_tests, Option.none-some}
 use Rattle.std.proofs.Common.{◌≡◌, ◌∙◌, ◌+◌, ◌≤◌, ℕ, Bool, true, false, nat_lt, if◌then◌else◌, List, [], ◌∷◌, ◌++◌}
 use Rattle.std.proofs.Common.{Some, None, arith, refl, ap}
@@ -7,7 +7,7 @@ use Rattle.cs_base.specs.Limits.{most_statements}
 use Rattle.cs_udo.specs.{Counted.line_passing, declared.tally.RunningCount.RunningCount}
 use Rattle.cs_udo.specs.inner.Tallies.{capped, total, passed_at, after_count, after_counts}
 
--- the counts of one list, and then those of another
+-- the counts of two lists, one after the other
 pub after_both : (t : RunningCount) (xs ys : List (ℕ × ℕ))
     → after_counts t (xs ++ ys) ≡ after_counts (after_counts t xs) ys
 after_both t [] ys = refl
@@ -17,7 +17,7 @@ pub total_both : (xs ys : List (ℕ × ℕ)) → total (xs ++ ys) ≡ total xs +
 total_both [] ys = omega arith
 total_both (c ∷ xs) ys = omega (arith, total_both xs ys)
 
--- the sum of all
+-- the sum of all counts
 pub sum_after : (t : RunningCount) (s : ℕ) (xs : List (ℕ × ℕ)) → t.sum ≡ capped s
     → (after_counts t xs).sum ≡ capped (s + total xs)
 sum_after t s [] e = omega (arith, e)
@@ -31,7 +31,7 @@ stays t line (c ∷ rest) e = stays (after_count t c) line rest (ap (λ o. optio
 not_past : (n : ℕ) → nat_lt 2000 n ≡ false → n ≤ 2000
 not_past n e = grind (arith, nat_tests)
 
--- the line at which it becomes too much
+-- the line at which the sum exceeds the limit
 pub passed_after : (t : RunningCount) (xs : List (ℕ × ℕ)) → t.passed ≡ None → t.sum ≤ 2000
     → (after_counts t xs).passed ≡ line_passing most_statements t.sum xs
 passed_after t [] none le = none
@@ -52,7 +52,7 @@ passed_after t (c ∷ rest) none le = by (nat_lt 2000 (t.sum + c.1)) refl (passe
         (omega (arith, within, few))
         ∙ ap (λ n. line_passing most_statements n rest) within
 
--- what passes nowhere is not too much
+-- if no line exceeds the limit, the sum is within it
 pub within_all : (s : ℕ) (xs : List (ℕ × ℕ)) → s ≤ 2000 → line_passing most_statements s xs ≡ None → s + total xs ≤ 2000
 within_all s [] le e = omega (arith, le)
 within_all s (c ∷ rest) le e = grind (arith, common_steps, nat_lt, none-some, not_past, within_all (s + c.1) rest)

@@ -1,4 +1,5 @@
--- What expanded statements count: as many as there are, and one for each call of a defined opcode.
+-- The number that expanded statements count as: the number of statements, plus one for each call of a
+-- user-defined opcode.
 use Rattle.std.proofs.Common.{◌≡◌, ◌∙◌, ◌+◌, ℕ, suc, min, List, [], ◌∷◌, map, length, Option, Some, None, arith, refl}
 use Rattle.std.proofs.Common.{sym, ap}
 use Rattle.std.specs.List.{prefix_len}
@@ -15,11 +16,12 @@ use Rattle.cs_udo.specs.inner.Tallies.{total, is_value, weight}
 use Rattle.cs_udo.proofs.EachDefined.{Of, OfEach, of_called, of_none, all_more}
 use Rattle.cs_udo.proofs.Tallied.{total_both}
 
--- a template makes as many statements in each frame, and uses a number for each call
+-- a template yields equally many statements in each frame, and uses one frame number for each call
 pub record Fair (t : Template) : Type 0 where
   pub size : (f g : ℕ) → size_of (t.block f) ≡ size_of (t.block g)
   pub after : (f : ℕ) → t.after f ≡ f + 1 + t.calls
 
+-- each of the opcodes is fair
 abbrev pub AllFair : Opcodes → Type 0
 AllFair opcodes = OfEach Fair opcodes
 
@@ -72,7 +74,7 @@ called_size own f line xs c args None fair = refl
 called_size own f line xs c args (Some t) fair =
     call_parts own f line xs c args t fair ∙ sym (call_parts as_it_is 1 line xs c args t fair)
 
--- what a call of a defined opcode counts
+-- the number that a call of a user-defined opcode counts as
 pub call_weight : (line : ℕ) (xs : List (List ℕ)) (c : Callee) (args : List Argument) (t : Template) → Fair t
     → call_count line xs c args
     (Some t) ≡ (size_of (assignments line t.inputs args) + min (length xs) (length t.results)) + (weight t + 1)
@@ -152,7 +154,7 @@ fair_template opcodes fair d = record {
 pub fair_all : (ds : List Definition) → AllFair (defining_all no_opcodes ds)
 fair_all ds = all_more Fair template fair_template no_opcodes (of_none Fair) ds
 
--- ---- what a definition counts
+-- ---- the number that a definition counts as
 
 pub counts_joins : (opcodes : Opcodes) (a b : Block)
     → total (counts_in opcodes (joins a b)) ≡ total (counts_in opcodes a) + total (counts_in opcodes b)

@@ -1,4 +1,4 @@
--- Statements with each call of a defined opcode replaced by what the opcode does.
+-- Statements with each call of a user-defined opcode replaced by the statements of the opcode.
 use Rattle.std.specs.Prelude.{ℕ, List, [], ◌∷◌, ◌+◌, map, nat_lt, Option, Some, None, if◌then◌else◌}
 use Rattle.cs_grammar.specs.{declared.tree.Callee.Callee, Renaming.renamed_expression, Renaming.renamed_argument}
 use Rattle.cs_grammar.specs.Tree.{Argument, value, var, Statement, set, call, choose, Block, no_stmt, andthen, joins}
@@ -6,9 +6,9 @@ use Rattle.cs_grammar.specs.Tree.{Arms, otherwise, arm, Definition, Instrument, 
 use Rattle.cs_udo.specs.ByName.{ByName, item_of, with_item, with_items}
 use Rattle.cs_udo.specs.Names.{in_frame, as_it_is, slots}
 
--- What a defined opcode is to its callers: the names of its inputs and of its results, its statements in a frame of a
--- number (the frames of calls in it have the next numbers), the first number after all these, and how many calls
--- there are in it.
+-- A user-defined opcode as its callers see it: the names of its inputs and of its results, its statements in
+-- a frame with a given number (calls in it use the next frame numbers), the first unused frame number after
+-- all these, and the number of calls in it.
 pub record Template : Type 0 where
   pub inputs : List (List ℕ)
   pub results : List (List ℕ)
@@ -16,43 +16,45 @@ pub record Template : Type 0 where
   pub after : ℕ → ℕ
   pub calls : ℕ
 
--- the defined opcodes that may be called at a place, by name
+-- the user-defined opcodes that may be called in some context, by name
 abbrev pub Opcodes : Type 0
 Opcodes = ByName Template
 
+-- no user-defined opcodes
 abbrev pub no_opcodes : Opcodes
 no_opcodes name = None
 
--- the defined opcode that is called, if it is one: an opcode of the catalogue is none
+-- the called opcode if it is user-defined; an opcode of the catalogue has no template
 abbrev pub defined : Opcodes → Callee → Option Template
 defined opcodes c = item_of opcodes c
 
+-- a block of one statement
 abbrev pub alone : Statement → Block
 alone x = andthen x no_stmt
 
--- assignments, from left to right, of values to names
+-- assignments of values to names, from left to right
 abbrev pub assignments : ℕ → List (List ℕ) → List Argument → Block
 assignments line (x ∷ xs) (value e ∷ args) = andthen (set line x e) (assignments line xs args)
 assignments line xs args = no_stmt
 
--- the value of a variable of a frame
+-- the value of a variable in a frame
 abbrev pub value_in : ℕ → List ℕ → Argument
 value_in frame x = value (var (in_frame frame x))
 
--- A call: its arguments are given to the inputs, then comes what the opcode does, then the results are given. All of
--- them are in a frame of their own. Another opcode's call stays.
+-- A call: the arguments are assigned to the inputs, then come the statements of the opcode, and then the
+-- results are assigned. They all use a separate frame. A call of any other opcode is unchanged.
 abbrev pub called : (List ℕ → List ℕ) → ℕ → ℕ → List (List ℕ) → Callee → List Argument → Option Template → Block
 called own frame line xs c args None = alone (call line (map own xs) c (map (renamed_argument own) args))
 called own frame line xs c args (Some t) =
     joins (assignments line (map (in_frame frame) t.inputs) (map (renamed_argument own) args))
     (joins (t.block frame) (assignments line (map own xs) (map (value_in frame) t.results)))
 
--- the first frame after those of a call
+-- the first frame number that a call leaves unused
 abbrev pub after_called : ℕ → Option Template → ℕ
 after_called frame None = frame
 after_called frame (Some t) = t.after frame
 
--- the first frame after those of the calls in statements
+-- the first frame number that the calls in statements leave unused
 abbrev mutual
   pub after : Opcodes → ℕ → Statement → ℕ
   after opcodes frame (set line x e) = frame
@@ -67,8 +69,8 @@ abbrev mutual
   after_arms opcodes frame (otherwise b) = after_block opcodes frame b
   after_arms opcodes frame (arm c b rest) = after_arms opcodes (after_block opcodes frame b) rest
 
--- Statements whose variables get the names of `own`, with each call in a frame of its own, numbered in the order of
--- the text.
+-- Statements whose variables are renamed with `own`, with each call in a separate frame, numbered in the
+-- order of the text.
 abbrev mutual
   pub expanded : Opcodes → (List ℕ → List ℕ) → ℕ → Statement → Block
   expanded opcodes own frame (set line x e) = alone (set line (own x) (renamed_expression own e))
@@ -86,12 +88,12 @@ abbrev mutual
       arm (renamed_expression own c) (expanded_block opcodes own frame b)
       (expanded_arms opcodes own (after_block opcodes frame b) rest)
 
--- the call of an opcode and those in it, if it is a defined one
+-- the number of calls in a call of an opcode: itself and the calls in it, if it is user-defined
 abbrev pub calls_of : Option Template → ℕ
 calls_of None = 0
 calls_of (Some t) = 1 + t.calls
 
--- the calls of defined opcodes in statements, nested ones too
+-- the number of calls of user-defined opcodes in statements, including nested calls
 abbrev mutual
   pub calls : Opcodes → Statement → ℕ
   calls opcodes (set line x e) = 0
@@ -106,11 +108,11 @@ abbrev mutual
   calls_in_arms opcodes (otherwise b) = calls_in opcodes b
   calls_in_arms opcodes (arm c b rest) = calls_in opcodes b + calls_in_arms opcodes rest
 
--- what a definition does: its statements, and then the values of `xout`, given to the names of the results
+-- the statements of a definition, followed by assignments of the values of `xout` to the slots of the results
 abbrev pub whole_body : Definition → Block
 whole_body d = joins d.body (assignments d.line (slots 0 d.outs) d.result)
 
--- a definition, where these opcodes may be called in it
+-- the template of a definition, in which these opcodes may be called
 abbrev pub template : Opcodes → Definition → Template
 template opcodes d = record {
   inputs = d.names;
@@ -120,7 +122,7 @@ template opcodes d = record {
   calls = calls_in opcodes (whole_body d);
 }
 
--- the opcodes after one more definition; what is defined before stays
+-- the opcodes after one more definition; earlier definitions are unchanged
 abbrev pub defining : Opcodes → Definition → Opcodes
 defining opcodes d = with_item template opcodes d
 
@@ -128,12 +130,12 @@ defining opcodes d = with_item template opcodes d
 abbrev pub defining_all : Opcodes → List Definition → Opcodes
 defining_all opcodes ds = with_items template opcodes ds
 
--- the definitions in front of a line
+-- the definitions before a line
 abbrev pub before : ℕ → List Definition → List Definition
 before line [] = []
 before line (d ∷ ds) = if nat_lt d.line line then d ∷ before line ds else []
 
--- the opcodes that are defined in front of a line
+-- the opcodes that are defined before a line
 abbrev pub opcodes_before : ℕ → List Definition → Opcodes
 opcodes_before line ds = defining_all no_opcodes (before line ds)
 
@@ -145,7 +147,7 @@ expanded_instrument ds i = record {
   body = expanded_block (opcodes_before i.line ds) as_it_is 1 i.body;
 }
 
--- An orchestra without definitions. The statements outside instruments call no defined opcode.
+-- An orchestra without definitions. The statements outside instruments call no user-defined opcode.
 abbrev pub expanded_orchestra : Orchestra → Orchestra
 expanded_orchestra o = record {
   head = o.head;

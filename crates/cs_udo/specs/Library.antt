@@ -1,4 +1,4 @@
--- Definitions by their places.
+-- Definitions by index.
 use Rattle.std.specs.Prelude.{ℕ, List, ◌≡◌, ◌<◌, ◌≤◌, min, length, map, take, slice_get, Option, Some, None}
 use Rattle.cs_words.specs.NameSets.{place_of}
 use Rattle.cs_grammar.specs.{declared.tree.Callee.Callee, Tree.Definition, Tree.definition}
@@ -14,11 +14,11 @@ definitions_of l = map definition l.definitions.now
 abbrev pub opcodes_of : List Definition → ℕ → Opcodes
 opcodes_of ds visible = defining_all no_opcodes (take visible ds)
 
--- the place of the first of some definitions that has a name, or their number where none has it
+-- the index of the first definition with a name, or the number of definitions if none has it
 abbrev pub place_among : List Definition → List ℕ → ℕ
 place_among ds x = place_of (map (λ d. d.name) ds) x
 
--- what is called where the first `visible` definitions are seen: none of them, or the first that has the name
+-- the result of a look-up among the first `visible` definitions: none, or the first that has the name
 abbrev pub IsFound : List Definition → ℕ → Callee → Option FoundDefinition → Type 0
 IsFound ds visible (callee.Opcode o) None = Unit {0}
 IsFound ds visible (callee.Opcode o) (Some f) = ⊥
@@ -27,7 +27,7 @@ IsFound ds visible (callee.Name x) (Some f) =
     (f.place < visible) × (f.place ≡ place_among ds x)
     × (slice_get ds f.place ≡ Some (definition f.definition.now))
 
--- The same by opcodes: a definition may call those in front of it.
+-- The result of a look-up in terms of opcodes: a definition may call those before it.
 abbrev pub IsDefined : List Definition → ℕ → Callee → Option FoundDefinition → Type 0
 IsDefined ds visible c None = defined (opcodes_of ds visible) c ≡ None
 IsDefined ds visible c (Some f) =

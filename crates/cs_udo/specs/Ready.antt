@@ -1,4 +1,5 @@
--- An orchestra that can be typed: it is that of a text, and its definitions are those that are found by name.
+-- An orchestra that is ready to be typed: its tree is well formed, and the library holds exactly its
+-- definitions.
 use Rattle.std.specs.Prelude.{◌≡◌}
 use Rattle.cs_grammar.specs.WellFormed.{IsWellFormed}
 use Rattle.cs_udo.specs.{Library.definitions_of, declared.library.Expansion.Expansion}

@@ -1,3 +1,3 @@
--- What only clauses of private functions cite.
+-- Definitions that only private clauses use.
 pub mod Tallies
 pub mod Walks

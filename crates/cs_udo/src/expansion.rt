@@ -1,4 +1,4 @@
-// An orchestra whose calls can be expanded, or why they can't.
+// Orchestras whose calls can be expanded, and the reasons why others can't.
 ghost use Rattle.std.specs.Prelude.{◌≡◌, IfOk, Ok, Err, None};
 ghost use Rattle.cs_base.specs.declared.fault.Or.TheVariants as or;
 ghost use Rattle.cs_base.specs.declared.refusal.Refusal.{Refusal};
@@ -17,9 +17,9 @@ use std::alloc::Global;
 impl<'t> Expansion<'t> {
     ghost use Rattle.cs_udo.specs.Ready.{IsReady};
 
-    /// An orchestra and its definitions; or the first call that is refused, or, where none is, the first limit on
-    /// instruments or statements that it passes, each at its line. The names of the definitions are different, as in
-    /// each orchestra that is read. Nothing is copied.
+    /// Returns an orchestra with its definitions, without copying anything. Otherwise returns the first
+    /// refused call, or, if no call is refused, the first exceeded limit on instruments or statements, each
+    /// with its line. The names of the definitions are different, as in every orchestra that is read.
     pub fn new(alloc: Global, orc: &'t Orc) -> Result<Expansion<'t>, Or<Refusal>>
         requires { IsWellFormed (tree.orchestra orc.now) }
         ensures ready { IfOk result (λ e. IsReady e) }
@@ -35,7 +35,7 @@ impl<'t> Expansion<'t> {
     }
 }
 
-// Refuses an orchestra with a call that breaks a rule, or else one that passes a limit.
+// Refuses an orchestra with a call that breaks a rule, or otherwise one that exceeds a limit.
 fn check(alloc: Global, library: &Library, orc: &Orc) -> Result<(), Or<Refusal>>
     requires { definitions_of library.now ≡ (tree.orchestra orc.now).opcodes }
     ensures fine { IfOk result (λ _. first_fault (tree.orchestra orc.now) ≡ None) }

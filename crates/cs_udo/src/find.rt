@@ -1,4 +1,4 @@
-// How definitions are found: by name, and by line.
+// Finds definitions by name and by line.
 ghost use Rattle.std.specs.Prelude.{◌≡◌, ◌≤◌, IfOk, map, nat_lt, length};
 ghost use Rattle.std.specs.List.{prefix_len};
 ghost use Rattle.cs_grammar.specs.Inputs.{AreDifferent};
@@ -13,7 +13,7 @@ use cs_words::NameSet;
 use std::alloc::Global;
 
 impl<'t> Library<'t> {
-    /// Definitions whose names are different.
+    /// Returns the library of these definitions, whose names must be different.
     pub fn new(alloc: Global, definitions: &'t [Udo]) -> Result<Library<'t>, OutOfMemory>
         requires { AreDifferent (map (λ u. u.name) definitions.now) }
         ensures { IfOk result (λ l. definitions_of l ≡ map tree.definition definitions.now) }
@@ -25,7 +25,7 @@ impl<'t> Library<'t> {
         Ok(Library { definitions, names })
     }
 
-    /// The definition that is called, among the first `visible`; None where the callee is none of them.
+    /// Finds the called definition among the first `visible` ones; `None` if it is not among them.
     pub fn find(&self, visible: usize, callee: &Callee) -> Option<FoundDefinition<'t>>
         ensures found { IsFound (definitions_of self.now) visible callee.now result }
         ensures defined { IsDefined (definitions_of self.now) visible callee.now result }
@@ -36,7 +36,7 @@ impl<'t> Library<'t> {
         }
     }
 
-    // The definition of a name, among the first `visible`.
+    // Finds the definition with this name among the first `visible` ones.
     fn named(&self, visible: usize, name: &[u8]) -> Option<FoundDefinition<'t>>
         ensures found { IsFound (definitions_of self.now) visible (callee.Name name.now) result }
         ensures defined { IsDefined (definitions_of self.now) visible (callee.Name name.now) result }
@@ -52,7 +52,7 @@ impl<'t> Library<'t> {
         }
     }
 
-    /// The number of definitions in front of a line.
+    /// Returns the number of definitions before a line.
     pub fn before(&self, line: u32) -> usize
         ensures count { result ≡ prefix_len (λ d. nat_lt d.line line) (definitions_of self.now) }
         ensures within { result ≤ length (definitions_of self.now) }

@@ -1,16 +1,17 @@
-//! Opcodes of one's own: whether the calls of an orchestra can be replaced by what the called opcodes do, and which
-//! definition a call means.
+//! User-defined opcodes: whether the calls in an orchestra can be replaced by the statements of the called
+//! opcodes, and which definition a call refers to.
 //!
-//! Its one contract: `Expansion::new` is Ok where `expanding` (specs/Expanding) gives the expanded orchestra of the
-//! tree, and has else the refusal that it gives: the first call that is refused, or, where none is, the first limit on
-//! instruments or statements that is passed. Its `library` says by `find` and `before` what a call means at its place.
-//! The expanded orchestra (`expanded_orchestra`) is a definition, and no code builds it: cs_typing gives its typed form
-//! out of the definitions, each typed once. What a call means, and that the expansion means it, is said by
-//! cs_udo_meaning over the same definitions. How definitions are found and statements counted may be changed without
-//! anyone above noticing.
+//! Its one contract: unless memory runs out, `Expansion::new` succeeds if `expanding` (specs/Expanding)
+//! yields the expanded orchestra of the tree, and otherwise returns the same refusal as `expanding`: the
+//! first refused call, or, if no call is refused, the first exceeded limit on instruments or statements. Its
+//! `library` determines with `find` and `before` which definition a call refers to. The expanded orchestra
+//! (`expanded_orchestra`) is a definition, and no code builds it: cs_typing makes its typed form from the
+//! definitions, each typed once. cs_udo_meaning defines what a call means, with the same definitions, and
+//! proves that the expansion means the same. How definitions are found and statements are counted may change
+//! without anyone above noticing.
 //!
-//! To be read in this order: `library` and `find` (the definitions), `refuse` (calls that are refused), `tally` (what
-//! statements count, and the limits), `expansion` (the whole), `laws` (expansions worked by hand).
+//! In reading order: `library` and `find` (the definitions), `refuse` (refused calls), `tally` (statement
+//! counts, and the limits), `expansion` (the entire check), `laws` (expansions worked out by hand).
 #![tactic(auto)]
 
 mod expansion;

@@ -1,4 +1,4 @@
-// The defined opcodes of an orchestra, and an orchestra that may be expanded.
+// The user-defined opcodes of an orchestra, and orchestras that can be expanded.
 ghost use Rattle.std.specs.Prelude.{◌≡◌, None, map};
 ghost use Rattle.cs_grammar.specs.Tree as tree;
 ghost use Rattle.cs_udo.specs.{Counted.first_limit, Refused.first_fault};
@@ -14,14 +14,15 @@ pub struct Library<'t> {
     ghost named: { names ≡ map (λ u. u.name) definitions.now },
 }
 
-/// A definition, and how many there are in front of it.
+/// A definition, and its index in the order of the text.
 #[derive(Clone, Copy)]
 pub struct FoundDefinition<'t> {
     pub place: usize,
     pub definition: &'t Udo,
 }
 
-/// An orchestra none of whose calls of defined opcodes breaks a rule, and that passes no limit; and its definitions.
+/// An orchestra whose calls of user-defined opcodes break no rule and which exceeds no limit, with its
+/// definitions.
 #[derive(Drop)]
 pub struct Expansion<'t> {
     pub orc: &'t Orc,

@@ -1,4 +1,4 @@
-// The calls that are refused.
+// Refused calls.
 ghost use Rattle.std.specs.Prelude.{◌≡◌, ◌==◌, ◌&&◌, ◌||◌, not, if◌then◌else◌, Some, None, map, length};
 ghost use Rattle.cs_base.specs.declared.fault.OrcKind.TheVariants as orc;
 ghost use Rattle.cs_grammar.specs.Tree as tree;
@@ -13,12 +13,12 @@ use crate::library::Library;
 use cs_base::{Name, OrcFault, OrcKind};
 use cs_grammar::{Arg, Arm, Callee, Instr, Orc, OrcStmt, StmtWhat, Udo};
 
-/// Where calls stand, and the number of definitions in front of them.
+/// The context of calls, and the number of definitions before them.
 #[derive(Clone, Copy)]
 pub struct Site<'l, 't> {
     library: &'l Library<'t>,
     visible: usize,
-    /// Inside an instrument or a definition.
+    // Whether the calls are inside an instrument or a definition.
     inside: bool,
 }
 
@@ -33,7 +33,7 @@ fn has_text(args: &[Arg]) -> bool
     false
 }
 
-// Whether there are as many results and arguments as a definition has.
+// Whether there are as many results and arguments as the definition has.
 fn are_as_many(results: &[Name], args: &[Arg], definition: &Udo) -> bool
     ensures { result
         ≡ (length results.now == length definition.now.outs && length args.now == length definition.now.names) }
@@ -41,7 +41,7 @@ fn are_as_many(results: &[Name], args: &[Arg], definition: &Udo) -> bool
     results.len() == definition.outs.len() && args.len() == definition.names.len()
 }
 
-// Whether a call has a text among its arguments, or stands outside.
+// Whether a call has a text among its arguments, or is outside instruments and definitions.
 fn is_misplaced(inside: bool, args: &[Arg]) -> bool
     ensures { result ≡ (has_text (map tree.argument args.now) || not inside) }
 {
@@ -61,7 +61,7 @@ fn rule_of(as_many: bool, misplaced: bool) -> Option<OrcKind>
     }
 }
 
-// The rule that a call of a definition breaks.
+// The rule that a call of a definition breaks, if any.
 fn broken_rule(inside: bool, results: &[Name], args: &[Arg], definition: &Udo) -> Option<OrcKind>
     ensures { (opcodes : Opcodes) → result
         ≡ broken_rule inside results.now (map tree.argument args.now)
@@ -82,7 +82,7 @@ fn fault_at(line: u32, kind: Option<OrcKind>) -> Option<OrcFault>
     }
 }
 
-// The fault of a call.
+// The fault of a call, if any.
 fn call_fault(
     site: &Site,
     line: u32,
@@ -104,7 +104,7 @@ fn call_fault(
     }
 }
 
-// Of two faults the one in the line above.
+// The earlier of two faults, by line.
 fn uppermost(first: Option<OrcFault>, next: Option<OrcFault>) -> Option<OrcFault>
     ensures { result ≡ uppermost_of first next }
 {
@@ -162,7 +162,8 @@ fn after_arm(first: Option<OrcFault>, site: &Site, a: &Arm) -> Option<OrcFault>
     after_block(first, site, &a.body)
 }
 
-// Those of the statements outside, each by the definitions in front of it.
+// The earliest fault after the statements outside instruments are checked, each against the definitions
+// before it.
 fn after_outside(
     first: Option<OrcFault>,
     library: &Library,
@@ -182,7 +183,7 @@ fn after_outside(
     known
 }
 
-// Those of the definitions, each by those in front of it.
+// The earliest fault after the definitions are checked, each against the definitions before it.
 fn after_definitions(first: Option<OrcFault>, library: &Library) -> Option<OrcFault>
     ensures { result ≡ after_faults first (faults_of_definitions no_opcodes (definitions_of library.now)) }
 {
@@ -199,7 +200,7 @@ fn after_definitions(first: Option<OrcFault>, library: &Library) -> Option<OrcFa
     known
 }
 
-// Those of the instruments, each by the definitions in front of it.
+// The earliest fault after the instruments are checked, each against the definitions before it.
 fn after_instruments(
     first: Option<OrcFault>,
     library: &Library,
@@ -220,7 +221,7 @@ fn after_instruments(
     known
 }
 
-/// The first call of an orchestra that is refused.
+/// Returns the first refused call of an orchestra, or `None` if there is none.
 pub fn first_fault(library: &Library, orc: &Orc) -> Option<OrcFault>
     requires { (definitions_of library.now) ≡ (tree.orchestra orc.now).opcodes }
     ensures { result ≡ first_fault (tree.orchestra orc.now) }

@@ -1,4 +1,5 @@
-// What statements count, and the limits on instruments and on the statements of one.
+// The numbers that statements count as, and the limits on instruments and on the statements of one
+// instrument.
 ghost use Rattle.std.specs.Prelude.{◌≡◌, ◌≤◌, ◌+◌, ℕ, List, IfOk, length, map};
 ghost use Rattle.std.specs.List.{prefix_len};
 ghost use Rattle.cs_grammar.specs.Tree as tree;
@@ -13,12 +14,12 @@ use cs_base::{Limit, LimitHit, MOST_INSTRUMENTS, MOST_STATEMENTS, Name, OutOfMem
 use cs_grammar::{Arg, Arm, Callee, Instr, OrcStmt, StmtWhat, Udo};
 use std::alloc::Global;
 
-/// What is counted so far.
+/// The count so far.
 #[derive(Clone, Copy)]
 pub struct RunningCount {
     /// The sum, capped at `MOST_STATEMENTS + 1`, which means "too many".
     pub sum: u32,
-    /// The line at which the sum passed `MOST_STATEMENTS`.
+    /// The line at which the sum exceeded `MOST_STATEMENTS`, if it did.
     pub passed: Option<u32>,
 }
 
@@ -37,14 +38,14 @@ fn capped(number: usize) -> u32
     number.min(MOST_STATEMENTS + 1) as u32
 }
 
-// A sum, capped likewise.
+// The sum of two numbers, capped at `MOST_STATEMENTS + 1`.
 fn plus(a: u32, b: u32) -> u32
     ensures { result ≡ capped (a + b) }
 {
     capped(a as usize + b as usize)
 }
 
-// What is counted after one more statement.
+// The count after one more statement.
 fn add(before: RunningCount, line: u32, count: u32) -> RunningCount
     ensures { result ≡ after_count before (line, count) }
 {
@@ -60,7 +61,7 @@ fn add(before: RunningCount, line: u32, count: u32) -> RunningCount
     }
 }
 
-// The number of arguments in front of the first text.
+// The number of arguments before the first text.
 fn values(args: &[Arg]) -> usize
     ensures count { result ≡ prefix_len is_value (map tree.argument args.now) }
     ensures within { result ≤ length args.now }
@@ -75,7 +76,7 @@ fn values(args: &[Arg]) -> usize
     count
 }
 
-// The number of assignments of arguments to `names` names.
+// The number of assignments of arguments to `names` names, capped.
 fn assigned(names: usize, args: &[Arg]) -> u32
     ensures { (line : ℕ) (xs : List (List ℕ)) → names ≡ length xs
         → result ≡ capped (size_of (assignments line xs (map tree.argument args.now))) }
@@ -83,7 +84,7 @@ fn assigned(names: usize, args: &[Arg]) -> u32
     capped(names.min(values(args)))
 }
 
-// What a call counts.
+// The number that a call counts as, capped.
 fn price(prices: &Prices, results: &[Name], callee: &Callee, args: &[Arg]) -> u32
     ensures { (line : ℕ) → result ≡ capped (call_count line results.now callee.now (map tree.argument args.now)
         (defined (opcodes_priced prices.now.library.now prices.now.costs.now) callee.now)) }
@@ -154,7 +155,7 @@ fn after_arm(before: RunningCount, prices: &Prices, a: &Arm) -> RunningCount
     after_block(before, prices, &a.body)
 }
 
-// What a definition counts where it is called, beside its inputs and results.
+// The number that a definition counts as in each call, without its inputs and results, capped.
 fn cost_of(prices: &Prices, definition: &Udo) -> u32
     ensures { result ≡ capped (weight (template
         (opcodes_priced prices.now.library.now prices.now.costs.now) (tree.definition definition.now))) }
@@ -170,7 +171,7 @@ fn cost_of(prices: &Prices, definition: &Udo) -> u32
     )
 }
 
-/// What each definition counts where it is called, beside its inputs and results.
+/// Returns the number that each definition counts as in each call, without its inputs and results, capped.
 pub fn costs_of(alloc: Global, library: &Library) -> Result<Vec<u32>, OutOfMemory>
     ensures priced { IfOk result (λ made. IsPriced (definitions_of library.now) made.items) }
     ensures all { IfOk result (λ made. length made.items ≡ length (definitions_of library.now)) }
@@ -189,7 +190,7 @@ pub fn costs_of(alloc: Global, library: &Library) -> Result<Vec<u32>, OutOfMemor
     Ok(costs)
 }
 
-// The statement of an instrument that is one too many.
+// The statement of an instrument with which the limit is exceeded, if any.
 fn statements_hit(library: &Library, costs: &[u32], i: &Instr) -> Option<LimitHit>
     requires priced { IsPriced (definitions_of library.now) costs.now }
     requires all { length costs.now ≡ length (definitions_of library.now) }
@@ -219,7 +220,8 @@ fn hit(limit: Limit, line: Option<u32>) -> Option<LimitHit>
     }
 }
 
-// The limit hit at this instrument, if its numbers, after `given` earlier ones, exceed `MOST_INSTRUMENTS`.
+// The limit hit at this instrument, if its numbers, together with the `given` earlier ones, exceed
+// `MOST_INSTRUMENTS`.
 fn numbers_hit(given: usize, i: &Instr) -> Option<LimitHit>
     ensures { result ≡ numbers_hit given (tree.instrument i.now) }
 {
@@ -233,7 +235,7 @@ fn numbers_hit(given: usize, i: &Instr) -> Option<LimitHit>
     }
 }
 
-/// The first limit that instruments pass.
+/// Returns the first limit that the instruments exceed, or `None` if they exceed none.
 pub fn first_limit(library: &Library, costs: &[u32], instrs: &[Instr]) -> Option<LimitHit>
     requires priced { IsPriced (definitions_of library.now) costs.now }
     requires all { length costs.now ≡ length (definitions_of library.now) }

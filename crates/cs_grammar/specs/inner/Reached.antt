@@ -1,11 +1,11 @@
--- What the parser knows of the place that it has reached.
+-- The parser's data about its current position.
 use Rattle.std.specs.Prelude.{ℕ, List, ◌+◌, ◌<◌, ◌≡◌, ◌^◌, length}
 use Rattle.cs_lex.specs.declared.token.Token.{Token}
-use Rattle.cs_symbols.specs.declared.symbol.Kind.{Kind}
-use Rattle.cs_symbols.specs.Symbols.{Spanned, next, after, symbols_from}
+use Rattle.cs_grammar.specs.declared.symbol.Kind.{Kind}
+use Rattle.cs_grammar.specs.Symbols.{Spanned, next, after, symbols_from}
 
--- A place that is reached: tokens of the text are left, the first of them after `place` others of its line, and what
--- the next two symbols are is known.
+-- A position: the remaining tokens of the text, the first of which follows `place` tokens on its line, and
+-- the kinds of the next two symbols.
 pub record IsReached (source : List ℕ) (place : ℕ) (tokens : List Token) (first second : Kind) : Type 0 where
   pub spanned : Spanned (length source) tokens
   pub short : place + length tokens < 2 ^ 63

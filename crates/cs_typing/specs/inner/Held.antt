@@ -1,4 +1,4 @@
--- What the code's tables of names say.
+-- The contents of the code's tables of names.
 use Rattle.std.specs.{BTreeMap.get_by, Cmp.Lexicographic.slice_cmp, Ordering.nat_cmp}
 use Rattle.cs_typing.specs.{declared.known.KnownNames.KnownNames, declared.known.Scope.Scope}
 use Rattle.cs_typing.specs.inner.Routines.{KnownInBody, Locals, known_in}
@@ -7,6 +7,6 @@ use Rattle.cs_typing.specs.inner.Routines.{KnownInBody, Locals, known_in}
 abbrev pub locals_of : Scope → Locals
 locals_of s = record { number = λ x. get_by (λ k. slice_cmp nat_cmp x k.now) s.numbers; counts = s.counts }
 
--- what is known at a place of a body
+-- The names known at this point of a body.
 abbrev pub known_of : KnownNames → KnownInBody
 known_of n = known_in n.shared (locals_of n.scope)

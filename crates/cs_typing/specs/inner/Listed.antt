@@ -1,4 +1,4 @@
--- The definitions that are typed so far, each by its routine in a list.
+-- The definitions that have been typed so far, each with its routine in a list.
 use Rattle.std.specs.Prelude.{ℕ, true, false, List, ◌++◌, ◌≡◌, ◌<◌, length, map, take, slice_get, Option, Some, None}
 use Rattle.std.specs.{Prelude.Result, Prelude.Ok, Prelude.Err, Global.Vec, List.All, Option.option_or}
 use Rattle.cs_base.specs.{declared.fault.Or.Or, declared.fault.OrcFault.OrcFault}
@@ -22,16 +22,16 @@ use Rattle.cs_typed.specs.TypedTree as typed
 abbrev pub routines_of : List Definition → ℕ → Routines
 routines_of ds visible = with_routines no_routines (take visible ds)
 
--- what may be called at a place
+-- the routines that may be called in this context
 abbrev pub routines_at : Site → Routines
 routines_at s = routines_of (definitions_of s.library.now) s.visible
 
--- what the routines of a table do, by their places
+-- the typed bodies of the routines in a table, by index
 abbrev pub blocks_in : RoutineTable → List typed.Block
 blocks_in t = typed.routines t.list.items
 
--- A definition is typed: where bodies share this much, its routine breaks no rule, uses no new channel, and does what
--- stands at its place of the list.
+-- A definition has been typed: with these shared names, its routine breaks no rule and uses no new channel,
+-- and its body is the one at its index in the list.
 pub record IsTyped (channels : ℕ) (g : Shared) (r : Routine) (it : TypedDefinition) (blocks : List typed.Block) : Type 0
   where
     pub fault : r.fault (inside channels) g ≡ None
@@ -41,7 +41,7 @@ pub record IsTyped (channels : ℕ) (g : Shared) (r : Routine) (it : TypedDefini
     pub locals : it.locals ≡ r.last.counts
     pub slots : it.slots.items ≡ map (number_in r.last) r.results
 
--- So is each definition that has a routine, each is well formed, and no channel is one of both kinds.
+-- Each definition that has a routine has been typed, each is well formed, and no channel is of both kinds.
 pub record AreTyped (channels : ℕ) (ds : List Definition) (g : Shared) (t : RoutineTable) : Type 0 where
   pub fit : All WellFormedDefinition ds
   pub marks : length t.by_definition.items ≡ length ds
@@ -49,7 +49,7 @@ pub record AreTyped (channels : ℕ) (ds : List Definition) (g : Shared) (t : Ro
       → slice_get ds k ≡ Some d → IsTyped channels g (routine_of (routines_of ds k) d) it (blocks_in t)
   pub apart : (x : List ℕ) → has g.control x ≡ true → has g.sound x ≡ false
 
--- where a place of the text has seen all this
+-- all definitions with a routine have been typed for the names that are shared at this point
 abbrev pub IsSound : Site → SoFar → Type 0
 IsSound s f = AreTyped s.setting.channels (definitions_of s.library.now) f.names.shared f.routines
 
@@ -57,29 +57,30 @@ IsSound s f = AreTyped s.setting.channels (definitions_of s.library.now) f.names
 abbrev pub IsLonger : RoutineTable → RoutineTable → Type 0
 IsLonger old new = (more : List typed.Block) × (blocks_in new ≡ blocks_in old ++ more)
 
--- after statements of a place: what holds of all that is typed holds on, and the routines stay where they are
+-- after statements: everything typed remains valid, and the routines keep their indices
 pub record IsAhead (s : Site) (old new : SoFar) : Type 0 where
   pub sound : IsSound s new
   pub longer : IsLonger old.routines new.routines
 
--- Statements are added that are these, whatever routines there are; and the same where more routines may follow.
+-- The statements with this typed form are added, independent of the routines.
 abbrev pub Adds : List TypedStmt → List TypedStmt → typed.Block → Type 0
 Adds old new b = (rs : List typed.Block) → typed.block rs new ≡ typed.then_block (typed.block rs old) b
 
+-- the statements with this typed form are added, whichever routines follow later
 abbrev pub AddsOver : RoutineTable → List TypedStmt → List TypedStmt → typed.Block → Type 0
 AddsOver t old new b =
     (more : List typed.Block) → typed.block (blocks_in t ++ more) new
     ≡ typed.then_block (typed.block (blocks_in t ++ more) old) b
 
--- ---- what calls answer
+-- ---- the results of calls
 
--- statements, where more routines may follow
+-- statements, whichever routines follow later
 abbrev pub GivesBlock : RoutineTable → Result (Vec TypedStmt) (Or OrcFault) → Option OrcFault → typed.Block → Type 0
 GivesBlock t (Ok v) fault form =
     (fault ≡ None) × ((more : List typed.Block) → typed.block (blocks_in t ++ more) v.items ≡ form)
 GivesBlock t (Err e) fault form = HasFault e fault
 
--- an `if`, where more routines may follow
+-- an `if`, whichever routines follow later
 abbrev pub GivesChoice : RoutineTable → Result TypedStmt (Or OrcFault) → Setting → Routines → KnownInBody → ℕ → Arms
     → Type 0
 GivesChoice t (Ok x) s rs k line list =
@@ -94,7 +95,7 @@ arm_fault_in s rs k line a =
     option_or (at line (condition_fault_by s (knows_in k) (expression (out-Arm a).cond)))
     (block_fault_in s rs k (block (out-Arm a).body.items))
 
--- an arm; `n` is what is known after it
+-- an arm; `n` is the names known after it
 abbrev pub GivesArm : RoutineTable → Setting → Routines → KnownInBody → ℕ → Arm → Result TypedArm (Or OrcFault)
     → KnownInBody → Type 0
 GivesArm t s rs k line a (Ok x) n =
@@ -106,11 +107,11 @@ GivesArm t s rs k line a (Ok x) n =
     × (n ≡ known_after_block rs k (block (out-Arm a).body.items))
 GivesArm t s rs k line a (Err e) n = HasFault e (arm_fault_in s rs k line a)
 
--- the routine of the definition at a place
+-- the routine of the definition at index `place`
 abbrev pub routine_here : Site → ℕ → Definition → Routine
 routine_here s place d = routine_of (routines_of (definitions_of s.library.now) place) d
 
--- A definition has its routine in a table, which does what it does where bodies shared this much.
+-- A definition has a routine in the table, whose body is right for these shared names.
 pub record IsListed (t : RoutineTable) (place : ℕ) (r : Routine) (g : Shared) : Type 0 where
   pub it : TypedDefinition
   pub at : slice_get t.by_definition.items place ≡ Some (Some it)

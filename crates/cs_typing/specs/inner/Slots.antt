@@ -1,5 +1,6 @@
--- What stands beside the body of a routine, by numbers alone: the values that its results' slots take, each the next
--- variable of its rate, the arguments that its inputs take, and the results that its caller takes.
+-- The assignments around the body of a routine, stated with numbers of variables: values of `xout` to the
+-- slots of the results, each slot being the next variable of its rate; arguments to inputs; and results to
+-- variables of the caller.
 use Rattle.std.specs.Prelude.{ℕ, ◌+◌, not, List, [], ◌∷◌, ◌&&◌, ◌||◌, Option, Some, None, if◌then◌else◌}
 use Rattle.std.specs.Option.{option_or}
 use Rattle.cs_base.specs.Rates.{at_rate, is_init, within}
@@ -17,36 +18,37 @@ use Rattle.cs_typed.specs.declared.tree.Var.TheVariants as variant
 
 -- ---- the values of `xout`
 
--- one variable more of a rate, which has no name
+-- the local variables with one more of a rate, which has no name
 abbrev pub one_counted : Locals → Rate → Locals
 one_counted l r = record { number = l.number; counts = counted r l.counts }
 
--- the first rule that values break which slots of these rates take
+-- the first rule that the assignments of values to slots of these rates break
 abbrev pub slots_fault : Setting → KnownInBody → ℕ → List Rate → List Argument → Option OrcFault
 slots_fault s k line (r ∷ rs) (value e ∷ args) =
     option_or (at line (set_fault_by s (knows_in k) (slot 0 r) e))
     (slots_fault s (known_in k.shared (one_counted k.locals r)) line rs args)
 slots_fault s k line rs args = None
 
--- each slot takes its value
+-- each slot is assigned its value
 abbrev pub slots_set : KnownInBody → ℕ → List Rate → List Argument → typed.Block
 slots_set k line (r ∷ rs) (value e ∷ args) =
     typed.andthen (typed.set line r (variant.Local r (at_rate k.locals.counts r)) (expression_by (variable_in k) e))
     (slots_set (known_in k.shared (one_counted k.locals r)) line rs args)
 slots_set k line rs args = typed.no_stmt
 
--- the variables behind them, and the numbers of the slots
+-- the local variables after the slots
 abbrev pub slots_past : Locals → List Rate → List Argument → Locals
 slots_past l (r ∷ rs) (value e ∷ args) = slots_past (one_counted l r) rs args
 slots_past l rs args = l
 
+-- the numbers of the slots
 abbrev pub slot_numbers : PerRate ℕ → List Rate → List Argument → List ℕ
 slot_numbers c (r ∷ rs) (value e ∷ args) = at_rate c r ∷ slot_numbers (counted r c) rs args
 slot_numbers c rs args = []
 
 -- ---- inputs
 
--- Inputs, which are local variables of the routine, take the values of arguments of the caller.
+-- The values of the caller's arguments are assigned to the inputs, which are local variables of the routine.
 abbrev pub given_set : KnownInBody → Locals → ℕ → List (List ℕ) → List Argument → typed.Block
 given_set k first line (x ∷ xs) (value e ∷ args) =
     typed.andthen (typed.set line (name_rate x)
@@ -56,16 +58,17 @@ given_set k first line xs args = typed.no_stmt
 
 -- ---- results
 
--- the rule that a variable breaks which takes a result of a rate
+-- the rule that the assignment of a result of rate r to variable x breaks
 abbrev pub taken_kind : Setting → List ℕ → Rate → Option OrcKind
 taken_kind s x r =
     if not (within r (name_rate x) && (s.inside || is_init (name_rate x))) then Some orc.RateMismatch else None
 
+-- the first rule that the assignments of results to variables break
 abbrev pub taken_fault : Setting → ℕ → List (List ℕ) → List Rate → Option OrcFault
 taken_fault s line (x ∷ xs) (r ∷ rs) = option_or (at line (taken_kind s x r)) (taken_fault s line xs rs)
 taken_fault s line xs rs = None
 
--- Variables of the caller take results of these rates and numbers, one after another.
+-- Results with these rates and numbers are assigned to variables of the caller, one after another.
 abbrev pub taken_set : KnownInBody → PerRate ℕ → ℕ → List (List ℕ) → List Rate → List ℕ → typed.Block
 taken_set k base line (x ∷ xs) (r ∷ rs) (n ∷ ns) =
     typed.andthen (typed.set line (name_rate x) (variable_in k x)

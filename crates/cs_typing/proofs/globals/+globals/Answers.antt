@@ -16,7 +16,7 @@ use Rattle.cs_udo.specs.Library.{definitions_of}
 use Rattle.cs_grammar.specs.Tree as tree
 use Rattle.cs_typing.proofs.globals.+globals.Goals as goal
 
--- ---- what is called
+-- ---- the called opcode
 
 pub globals_of_callee-globals_of_block-requires : goal.globals_of_callee-globals_of_block-requires
 globals_of_callee-globals_of_block-requires t c =

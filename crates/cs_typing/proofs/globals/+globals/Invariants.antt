@@ -6,7 +6,7 @@ use Rattle.cs_typing.proofs.Weights.{weight, weight_before, weight_of}
 use Rattle.cs_typing.proofs.globals.+globals.Given as goal
 use Rattle.cs_udo.specs.Library.{definitions_of}
 
--- a definition weighs less than those in front of the place of its call
+-- a definition weighs less than the definitions before its call
 abbrev pub decreases-globals_of_stmt : goal.decreases-globals_of_stmt
 decreases-globals_of_stmt l =
     weight_before (definitions_of l.front.library.now) l.front.visible + weight (tree.statement l.s.now)
@@ -18,7 +18,7 @@ abbrev pub decreases-globals_of_block : goal.decreases-globals_of_block
 decreases-globals_of_block l =
     weight_before (definitions_of l.front.library.now) l.front.visible + weight_of (tree.block l.stmts.now)
 
--- the rest gives what the whole gives
+-- adding the names of the rest to those so far yields the names of the whole
 abbrev pub invariant-globals_of_block-loop-s : goal.invariant-globals_of_block-loop-s
 invariant-globals_of_block-loop-s l =
     (given_globals l.given.names (names_in_block (givers_in l.front) (tree.block (drop l.s-index l.stmts)))

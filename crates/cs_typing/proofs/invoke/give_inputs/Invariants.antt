@@ -5,7 +5,7 @@ use Rattle.cs_typing.specs.{inner.Routines.inputs_fault, inner.Slots.given_set}
 use Rattle.cs_typed.specs.TypedTree as typed
 use Rattle.cs_typing.proofs.invoke.give_inputs.Given as goal
 
--- the rest says what the whole says
+-- the rest has the fault and the form of the whole
 abbrev pub invariant-loop-i : goal.invariant-loop-i
 invariant-loop-i l =
     (inputs_fault l.setting (known_of l.names) l.it.line (drop l.i l.it.definition.now.names)

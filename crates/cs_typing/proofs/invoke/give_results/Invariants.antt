@@ -4,7 +4,7 @@ use Rattle.cs_typing.specs.inner.Routines.{all_given_in, known_in}
 use Rattle.cs_typed.specs.TypedTree as typed
 use Rattle.cs_typing.proofs.invoke.give_results.Given as goal
 
--- the rest says what the whole says
+-- the rest has the fault and the form of the whole
 abbrev pub invariant-loop-i : goal.invariant-loop-i
 invariant-loop-i l =
     (taken_fault l.setting l.it.line (drop l.i l.it.results.now) (drop l.i l.it.definition.now.outs)

@@ -5,7 +5,7 @@ use Rattle.cs_typing.specs.inner.Slots.{slot_numbers, slots_fault, slots_past, s
 use Rattle.cs_typed.specs.TypedTree as typed
 use Rattle.cs_typing.proofs.invoke.give_slots.Given as goal
 
--- the rest says what the whole says
+-- the rest has the fault and the form of the whole
 abbrev pub invariant-loop-i : goal.invariant-loop-i
 invariant-loop-i l =
     (slots_fault l.setting (known_of l.names) l.definition.line (drop l.i l.definition.outs)

@@ -104,9 +104,9 @@ block-returns t c =
       ahead = was.3;
     }
 
--- ---- a definition that is called
+-- ---- a called definition
 
--- it is typed
+-- the definition is typed
 pub typed_routine-returns-then-is_some : goal.typed_routine-returns-then-is_some
 typed_routine-returns-then-is_some t c =
     let s = c.args.site.now in
@@ -161,7 +161,7 @@ typed_routine-returns-in_err-body-clause-fault t c =
     c.in_err-body.ensures.gives
     (body_breaks s.setting ds place d well g k k start _ (ap tree.block c.deref.ensures.value)))
 
--- its slots take their values
+-- its slots are assigned their values
 pub typed_routine-returns-in_err-slots-clause-fault : goal.typed_routine-returns-in_err-slots-clause-fault
 typed_routine-returns-in_err-slots-clause-fault t c =
     let s = c.args.site.now in
@@ -463,7 +463,7 @@ stmt-returns-in_ok-push-in-None t c =
           (tree.statement c.args.s.now) c.requires.sound refl fault known;
     }
 
--- ---- a call of a defined opcode
+-- ---- a call of a user-defined opcode
 
 pub stmt-returns-in-Some : goal.stmt-returns-in-Some
 stmt-returns-in-Some t c =
@@ -498,7 +498,7 @@ stmt-returns-in-Some t c =
       ahead = c.invoke.ensures.ahead;
     }
 
--- ---- what stands beside a routine
+-- ---- the assignments around a routine
 
 pub invoke-returns-in_err-give_inputs-clause-fault : goal.invoke-returns-in_err-give_inputs-clause-fault
 invoke-returns-in_err-give_inputs-clause-fault t c q =

@@ -10,7 +10,7 @@ use Rattle.cs_grammar.specs.Tree as tree
 use Rattle.cs_typed.specs.TypedTree as typed
 use Rattle.cs_typing.proofs.stmt.+typing.Given as goal
 
--- a definition weighs less than those in front of the place of its call
+-- a definition weighs less than the definitions before its call
 abbrev pub decreases-stmt : goal.decreases-stmt
 decreases-stmt l =
     weight_before (definitions_of l.site.now.library.now) l.site.now.visible + weight (tree.statement l.s.now)
@@ -35,7 +35,7 @@ decreases-arm l =
     weight_before (definitions_of l.site.now.library.now) l.site.now.visible
     + (1 + weight_of (tree.block (out-Arm l.a.now).body.items))
 
--- the rest says what the whole says, whatever routines follow
+-- the rest has the fault and the form of the whole, whichever routines follow later
 abbrev pub invariant-block-loop-s : goal.invariant-block-loop-s
 invariant-block-loop-s l =
     (block_fault_in l.site.setting (routines_at l.site) (known_of l.so_far.names) (tree.block (drop l.s-index l.stmts))

@@ -3,7 +3,7 @@ use Rattle.cs_typing.specs.{Settings.zaks_of_block, Settings.zaks_of_arms, inner
 use Rattle.cs_grammar.specs.Tree as tree
 use Rattle.cs_typing.proofs.zak.+zaks.Given as goal
 
--- the rest tells what the whole tells
+-- the data so far, after the rest, are the data after the whole
 abbrev pub invariant-after_block-loop-s : goal.invariant-after_block-loop-s
 invariant-after_block-loop-s l =
     after_zaks l.known (zaks_of_block (tree.block (drop l.s-index l.stmts))) ≡ after_zaks l.fn.before

@@ -4,7 +4,7 @@ use Rattle.cs_udo.specs.Library.{definitions_of, opcodes_of}
 use Rattle.cs_grammar.specs.Tree as tree
 use Rattle.cs_udo.proofs.refuse.+refuse.Given as goal
 
--- the rest tells what the whole tells
+-- the faults so far, followed by the faults of the remaining statements, are all faults
 abbrev pub invariant-after_block-loop-s : goal.invariant-after_block-loop-s
 invariant-after_block-loop-s l =
     after_faults l.known (faults_in (opcodes_of (definitions_of l.site.library.now) l.site.visible) l.site.inside

@@ -4,7 +4,7 @@ use Rattle.cs_udo.specs.Library.{definitions_of, opcodes_of}
 use Rattle.cs_grammar.specs.Tree as tree
 use Rattle.cs_udo.proofs.tally.+tally.Given as goal
 
--- the rest tells what the whole tells
+-- the counts so far, followed by the counts of the remaining statements, are all counts
 abbrev pub invariant-after_block-loop-s : goal.invariant-after_block-loop-s
 invariant-after_block-loop-s l =
     after_counts l.known (counts_in (opcodes_of (definitions_of l.prices.library.now) (length l.prices.costs.now))

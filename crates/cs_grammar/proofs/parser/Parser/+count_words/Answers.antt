@@ -1,9 +1,9 @@
 use Rattle.std.proofs.Common.{◌≡◌, ◌∙◌, true, arith, length, ap, sym}
 use Rattle.cs_grammar.proofs.{Sizes.after_size, Steps.few_words, Steps.past_comma}
 use Rattle.cs_grammar.specs.Reading.{next_is}
-use Rattle.cs_symbols.specs.Symbols.{after}
+use Rattle.cs_grammar.specs.Symbols.{after}
 use Rattle.cs_grammar.proofs.parser.Parser.+count_words.Goals as goal
-use Rattle.cs_symbols.specs.declared.symbol.Expected.TheVariants as expected
+use Rattle.cs_grammar.specs.declared.symbol.Expected.TheVariants as expected
 
 pub count_words-requires : goal.count_words-requires
 count_words-requires t c =

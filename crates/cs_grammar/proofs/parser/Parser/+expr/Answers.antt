@@ -4,7 +4,7 @@ use Rattle.cs_grammar.proofs.Rules.{group_is, closed_is, call_is, pick_unmet, pi
 use Rattle.cs_grammar.specs.{Parts.operator_of, inner.Answers.in_box}
 use Rattle.cs_grammar.specs.Grammar.{ReadsTail, binary, fact_group, fact_neg, no_more, one_alone, one_more, ReadsExpr}
 use Rattle.cs_grammar.specs.Tree.{Expression, expression, pair, pick}
-use Rattle.cs_symbols.specs.Symbols.{next}
+use Rattle.cs_grammar.specs.Symbols.{next}
 use Rattle.cs_grammar.specs.declared.expr.Level.TheVariants as at
 use Rattle.cs_grammar.proofs.parser.Parser.+expr.Goals as goal
 

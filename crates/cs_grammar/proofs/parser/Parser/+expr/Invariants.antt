@@ -3,7 +3,7 @@ use Rattle.cs_grammar.specs.Grammar.{ReadsExpr, ReadsTail}
 use Rattle.cs_grammar.specs.{Parts.rank, Reading.Reading, Tree.Expression, Tree.expression}
 use Rattle.cs_grammar.proofs.parser.Parser.+expr.Given as goal
 
--- by what is left, and then by the level
+-- by the number of remaining symbols, and then by the level
 abbrev pub decreases-expr : goal.decreases-expr
 decreases-expr l = 16 * length l.self.now + (2 * rank l.level + 2)
 
@@ -31,7 +31,7 @@ decreases-bracket l = 16 * length l.self.now
 abbrev pub decreases-choice : goal.decreases-choice
 decreases-choice l = 16 * length l.self.now
 
--- what is read so far, at a level up to the one that is asked for
+-- the part read so far is an expression of level `inner`
 abbrev pub invariant-expr-loop-outer : goal.invariant-expr-loop-outer
 invariant-expr-loop-outer l = record {
   reads : ReadsExpr l.scope l.inner (Ok l.fn.self) (Ok (expression l.value, l.self));
@@ -42,7 +42,7 @@ invariant-expr-loop-outer l = record {
 abbrev pub decreases-expr-loop-outer : goal.decreases-expr-loop-outer
 decreases-expr-loop-outer l = rank l.level - rank l.inner
 
--- however the operators from here on are read, so are they all
+-- every reading of the remaining operators is a reading of all operators
 abbrev pub invariant-operators-loop-op : goal.invariant-operators-loop-op
 invariant-operators-loop-op l = record {
   reads : (out : Reading Expression) → ReadsTail l.scope l.level (Ok (expression l.left, l.self)) out

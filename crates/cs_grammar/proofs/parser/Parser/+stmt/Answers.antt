@@ -6,7 +6,7 @@ use Rattle.cs_grammar.specs.{declared.tree.StmtWhat.TheViews.the_lemmas, declare
 use Rattle.cs_grammar.specs.{inner.Answers.Gives, inner.Answers.IsArm}
 use Rattle.cs_grammar.specs.Grammar.{ReadsStmt, stmt_beyond, stmt_if, stmt_misplaced}
 use Rattle.cs_grammar.specs.Tree.{arms, block, choose, expression, of_arms, of_block, of_what, statement}
-use Rattle.cs_symbols.specs.Symbols.{next}
+use Rattle.cs_grammar.specs.Symbols.{next}
 use Rattle.cs_grammar.proofs.{Rows.block_is, Rows.arms_is, Sizes.after_size}
 use Rattle.cs_grammar.proofs.Gives.{failed, followed, unpassed, valued}
 use Rattle.cs_grammar.proofs.StmtRules.{BlockSoFar, ArmsSoFar, else_in, stmts_in, arm_in, chain_in, line_is}

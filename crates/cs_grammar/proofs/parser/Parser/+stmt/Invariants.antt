@@ -2,7 +2,7 @@ use Rattle.std.proofs.Common.{◌+◌, ◌*◌, ◌≤◌, length}
 use Rattle.cs_grammar.proofs.StmtRules.{BlockSoFar, ArmsSoFar}
 use Rattle.cs_grammar.proofs.parser.Parser.+stmt.Given as goal
 
--- by what is left, and then by what is read
+-- by the number of remaining symbols, and then by the form that is read
 abbrev pub decreases-conditional : goal.decreases-conditional
 decreases-conditional l = 8 * length l.self.now + 1
 

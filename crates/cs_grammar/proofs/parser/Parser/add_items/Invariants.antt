@@ -1,6 +1,6 @@
 use Rattle.std.proofs.Common.{List, length}
 use Rattle.cs_grammar.specs.inner.Answers.{IsDraft}
-use Rattle.cs_symbols.specs.Symbols.{Symbol}
+use Rattle.cs_grammar.specs.Symbols.{Symbol}
 use Rattle.cs_grammar.proofs.parser.Parser.add_items.Given as goal
 
 abbrev pub invariant-loop-self : goal.invariant-loop-self

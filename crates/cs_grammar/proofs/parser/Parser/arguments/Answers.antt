@@ -2,7 +2,7 @@ use Rattle.std.proofs.Common.{◌∙◌, Ok, sym, ap, subst, map}
 use Rattle.cs_grammar.proofs.StmtRules.{args_in, weaker}
 use Rattle.cs_grammar.specs.Tree.{argument}
 use Rattle.cs_grammar.specs.Grammar.{ReadsArgs, ReadsList, args_none, args_some}
-use Rattle.cs_symbols.specs.Kinds.{ends_line}
+use Rattle.cs_grammar.specs.Kinds.{ends_line}
 use Rattle.cs_grammar.specs.declared.lists.Role.TheVariants as role
 use Rattle.cs_grammar.proofs.parser.Parser.arguments.Goals as goal
 

@@ -1,7 +1,7 @@
 use Rattle.std.proofs.Common.{Ok, Err, sym, ℕ, List}
 use Rattle.cs_grammar.proofs.{Gives.failed, Gives.made, Rules.stops, StmtRules.assign_is}
 use Rattle.cs_grammar.specs.Tree.{expression, of_what}
-use Rattle.cs_symbols.specs.Symbols.{next}
+use Rattle.cs_grammar.specs.Symbols.{next}
 use Rattle.cs_grammar.specs.declared.expr.Level.TheVariants as at
 use Rattle.cs_grammar.proofs.parser.Parser.assignment.Goals as goal
 

@@ -1,6 +1,6 @@
 use Rattle.std.proofs.Common.{ℕ, List, Ok, Err, refl, sym, map}
 use Rattle.cs_grammar.specs.{declared.tree.Callee.Callee, Grammar.args_stop, Tree.argument, Tree.of_what}
-use Rattle.cs_symbols.specs.Symbols.{next}
+use Rattle.cs_grammar.specs.Symbols.{next}
 use Rattle.cs_grammar.proofs.{Gives.failed, StmtRules.args_in, StmtRules.results_is}
 use Rattle.cs_grammar.proofs.parser.Parser.call_with_results.Goals as goal
 

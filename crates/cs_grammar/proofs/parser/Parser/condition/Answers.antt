@@ -2,7 +2,7 @@ use Rattle.std.proofs.Common.{Err, Ok, refl, sym, subst}
 use Rattle.cs_grammar.proofs.Gives.{failed, followed, unpassed, valued}
 use Rattle.cs_grammar.proofs.{Rules.closed_is, StmtRules.condition_is, StmtRules.condition_line}
 use Rattle.cs_grammar.specs.{Tree.expression, declared.tree.Expr.Expr, inner.Answers.IsCondition}
-use Rattle.cs_symbols.specs.declared.symbol.Expected.TheVariants as expected
+use Rattle.cs_grammar.specs.declared.symbol.Expected.TheVariants as expected
 use Rattle.cs_grammar.proofs.parser.Parser.condition.Goals as goal
 
 pub returns-in_err-cond-clause-reads : goal.returns-in_err-cond-clause-reads

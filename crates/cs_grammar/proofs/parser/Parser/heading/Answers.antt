@@ -2,7 +2,7 @@ use Rattle.std.proofs.Common.{List, Ok, Err, sym}
 use Rattle.cs_base.specs.declared.resource.Rate.{Rate}
 use Rattle.cs_grammar.proofs.{Gives.failed, Gives.unpassed, HeadingRules.heading_is, HeadingRules.heading_uncut}
 use Rattle.cs_grammar.specs.Headings.{Heading}
-use Rattle.cs_symbols.specs.Symbols.{after, next}
+use Rattle.cs_grammar.specs.Symbols.{after, next}
 use Rattle.cs_grammar.proofs.parser.Parser.heading.Goals as goal
 
 pub returns-in_err-pass-clause-reads : goal.returns-in_err-pass-clause-reads

@@ -2,7 +2,7 @@ use Rattle.std.proofs.Common.{◌≡◌, List, [], Ok, Err}
 use Rattle.cs_grammar.proofs.{Gives.failed, Gives.made, OrcRules.definition_reads}
 use Rattle.cs_grammar.specs.{Headings.heading, Orchestra.ReadsDefinition, Tree.definition, Reading.in_definition}
 use Rattle.cs_grammar.specs.{inner.Answers.inside, inner.Answers.of_inside}
-use Rattle.cs_symbols.specs.Symbols.{Symbol, after, next}
+use Rattle.cs_grammar.specs.Symbols.{Symbol, after, next}
 use Rattle.cs_grammar.proofs.parser.Parser.under.Goals as goal
 
 pub returns-in_err-lines-clause-reads : goal.returns-in_err-lines-clause-reads

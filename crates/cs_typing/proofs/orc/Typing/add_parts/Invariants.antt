@@ -5,7 +5,7 @@ use Rattle.cs_udo.specs.Library.{definitions_of}
 use Rattle.cs_grammar.specs.Tree as tree
 use Rattle.cs_typing.proofs.orc.Typing.add_parts.Given as goal
 
--- the rest says what the whole says, and adds what the whole adds
+-- the rest has the fault of the whole, and the parts so far with the rest are all parts
 abbrev pub invariant-loop-i : goal.invariant-loop-i
 invariant-loop-i l =
     (parts_fault l.channels (definitions_of l.library) (known_of l.self.so_far.names)

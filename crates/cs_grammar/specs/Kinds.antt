@@ -1,13 +1,13 @@
--- What a symbol is: the tests on kinds that the rules of the grammar ask for.
+-- The kinds of symbols, and the tests on kinds that the rules of the grammar use.
 use Rattle.std.specs.Prelude.{Bool, true, false}
-use Rattle.cs_symbols.specs.{declared.symbol.Kind.Kind, declared.symbol.Expected.Expected}
+use Rattle.cs_grammar.specs.{declared.symbol.Kind.Kind, declared.symbol.Expected.Expected}
 use Rattle.cs_words.specs.declared.word.Keyword.TheVariants as key
 use Rattle.cs_words.specs.declared.word.Word.TheVariants as word
 use Rattle.cs_words.specs.declared.sign.Sign.TheVariants as sign
-use Rattle.cs_symbols.specs.declared.symbol.Kind.TheVariants as kind
-use Rattle.cs_symbols.specs.declared.symbol.Expected.TheVariants as expected
+use Rattle.cs_grammar.specs.declared.symbol.Kind.TheVariants as kind
+use Rattle.cs_grammar.specs.declared.symbol.Expected.TheVariants as expected
 
--- whether a symbol is what is asked for
+-- whether a symbol of this kind is the expected one
 abbrev pub is : Expected → Kind → Bool
 is expected.Open (kind.Sign sign.Open) = true
 is expected.Close (kind.Sign sign.Close) = true
@@ -27,29 +27,30 @@ is expected.Xout (kind.Word (word.Keyword key.Xout)) = true
 is expected.End kind.End = true
 is _ _ = false
 
--- a Word, keywords included
+-- whether a symbol is a Word, which includes keywords
 abbrev pub is_word : Kind → Bool
 is_word (kind.Word w) = true
 is_word _ = false
 
--- NewLine, or End in its place
+-- whether a symbol is NewLine or End
 abbrev pub ends_line : Kind → Bool
 ends_line kind.NewLine = true
 ends_line kind.End = true
 ends_line _ = false
 
--- a word that begins like a variable, and means nothing else in the profile
+-- whether a symbol is a word that begins like a variable, and has no other meaning in the profile
 abbrev pub is_name_kind : Kind → Bool
 is_name_kind (kind.Word word.Name) = true
 is_name_kind _ = false
 
--- a word of the profile that is no keyword
+-- whether a symbol is a word of the profile, but no keyword
 abbrev pub is_plain : Kind → Bool
 is_plain (kind.Word (word.Keyword k)) = false
 is_plain (kind.Word word.Foreign) = false
 is_plain k = is_word k
 
--- a word that an opcode may be called: it means nothing else, but for a field
+-- whether a symbol is a word that may name a user-defined opcode: it has no other meaning, except perhaps as
+-- a field
 abbrev pub may_be_opcode : Kind → Bool
 may_be_opcode (kind.Word word.Name) = true
 may_be_opcode (kind.Word word.Other) = true

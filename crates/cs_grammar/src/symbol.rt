@@ -1,36 +1,36 @@
-// What a token is to the grammar.
+// The kind of each token as the grammar sees it.
 ghost use Rattle.std.specs.Prelude.{◌≡◌, ◌≤◌, ◌<◌, ◌+◌, ◌^◌, length};
-ghost use Rattle.cs_symbols.specs.Kinds.{is, is_word, is_plain, ends_line};
-ghost use Rattle.cs_symbols.specs.Symbols.{symbols_from, bytes_of, kind_after, unquoted, counted, next, after, Spanned};
-ghost use Rattle.cs_symbols.specs.declared.symbol.Kind.TheVariants as kind;
+ghost use Rattle.cs_grammar.specs.Kinds.{is, is_word, is_plain, ends_line};
+ghost use Rattle.cs_grammar.specs.Symbols.{symbols_from, bytes_of, kind_after, unquoted, counted, next, after, Spanned};
+ghost use Rattle.cs_grammar.specs.declared.symbol.Kind.TheVariants as kind;
 ghost use Rattle.cs_words.specs.declared.word.Word.TheVariants as word;
 
 use cs_base::{MOST_LINE_TOKENS, Num};
 use cs_lex::{Mark, Token};
 use cs_words::{Keyword, Sign, Word, sign_of, word_of};
 
-/// What a symbol is.
+/// The kind of a symbol.
 #[derive(Clone, Copy)]
 pub enum Kind {
     Word(Word),
     Number(Num),
     Text,
     Sign(Sign),
-    /// A token past the `MOST_LINE_TOKENS`th of its line, whatever it is.
+    /// Any token after the first `MOST_LINE_TOKENS` on its line.
     Beyond,
     NewLine,
     End,
 }
 
 impl Kind {
-    /// Whether the symbol is a word, a keyword too.
+    /// Whether the symbol is a word, which includes keywords.
     pub fn is_word(self) -> bool
         ensures { result ≡ is_word self }
     {
         matches!(self, Kind::Word(_))
     }
 
-    /// A word of the profile that is no keyword.
+    /// Whether the symbol is a word of the profile, but no keyword.
     pub fn is_plain(self) -> bool
         ensures { result ≡ is_plain self }
     {
@@ -40,7 +40,7 @@ impl Kind {
         }
     }
 
-    /// Whether the symbol ends a line: NewLine, or End in its place.
+    /// Whether the symbol ends a line: NewLine or End.
     pub fn ends_line(self) -> bool
         ensures { result ≡ ends_line self }
     {
@@ -48,7 +48,7 @@ impl Kind {
     }
 }
 
-/// What may be asked for of a symbol.
+/// The symbols that a rule of the grammar can expect.
 #[derive(Clone, Copy)]
 pub enum Expected {
     Open,
@@ -70,7 +70,7 @@ pub enum Expected {
 }
 
 impl Expected {
-    /// Whether a symbol of this kind is what is asked for.
+    /// Whether a symbol of this kind is the expected one.
     pub fn is(self, kind: Kind) -> bool
         ensures { result ≡ is self kind }
     {
@@ -114,7 +114,7 @@ impl Expected {
     }
 }
 
-/// The bytes of a token.
+/// Returns the bytes of a token.
 pub fn bytes_of<'s>(source: &'s [u8], token: &Token) -> &'s [u8]
     requires { (token.now.from ≤ token.now.to) × (token.now.to ≤ length source.now) }
     ensures { result.now ≡ bytes_of source.now token.now }
@@ -122,7 +122,7 @@ pub fn bytes_of<'s>(source: &'s [u8], token: &Token) -> &'s [u8]
     &source[token.from as usize..token.to as usize]
 }
 
-// What a token is that stands after `place` others of its line.
+// The kind of a token that follows `place` tokens on its line.
 fn kind_after(place: usize, mark: Mark, bytes: &[u8]) -> Kind
     ensures { result ≡ kind_after place mark bytes.now }
 {
@@ -137,7 +137,7 @@ fn kind_after(place: usize, mark: Mark, bytes: &[u8]) -> Kind
     }
 }
 
-/// A text without its quotation marks; other tokens whole.
+/// Returns the bytes of a token, without the quotation marks of a quoted text.
 pub fn unquoted(mark: Mark, bytes: &[u8]) -> &[u8]
     ensures { result.now ≡ unquoted mark bytes.now }
 {
@@ -148,7 +148,7 @@ pub fn unquoted(mark: Mark, bytes: &[u8]) -> &[u8]
     }
 }
 
-/// The place in its line of what follows a token.
+/// Returns the number of tokens on the line including this one, or 0 after a NewLine, which ends the line.
 pub fn counted(place: usize, mark: Mark) -> usize
     requires { place < 2 ^ 63 }
     ensures { result ≡ counted place mark }
@@ -159,7 +159,7 @@ pub fn counted(place: usize, mark: Mark) -> usize
     }
 }
 
-/// What the first token is, which stands after `place` others of its line; End where there is none.
+/// Returns the kind of the first token, which follows `place` tokens on its line; End if there is none.
 pub fn first_kind(source: &[u8], place: usize, tokens: &[Token]) -> Kind
     requires { Spanned (length source.now) tokens.now }
     ensures { result ≡ (next (symbols_from source.now place tokens.now)).kind }
@@ -170,7 +170,8 @@ pub fn first_kind(source: &[u8], place: usize, tokens: &[Token]) -> Kind
     }
 }
 
-/// What the second token is, where the first stands after `place` others of its line; End where there is none.
+/// Returns the kind of the second token, if the first one follows `place` tokens on its line; End if there is
+/// none.
 pub fn second_kind(source: &[u8], place: usize, tokens: &[Token]) -> Kind
     requires spanned { Spanned (length source.now) tokens.now }
     requires short { place + length tokens.now < 2 ^ 63 }
