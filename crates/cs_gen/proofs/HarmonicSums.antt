@@ -1,4 +1,4 @@
--- GEN10: a harmonic is added place by place, and one harmonic after the other.
+-- GEN10: a harmonic is added place by place, and harmonics are added one after another.
 use Rattle.std.proofs.Common.{◌≡◌, ℕ, ◌+◌, ◌-◌, ◌*◌, ◌%◌, ◌^◌, ◌≤◌, ◌<◌, List, [], ◌∷◌, ◌++◌, map, length, set, get_or}
 use Rattle.std.proofs.Common.{ℤ, pos, ◌+ℤ◌, ◌*ℤ◌, unsigned_abs, refl, sym, ◌∙◌, ap, subst, suc, negsuc, ◌/◌, arith}
 use Rattle.std.proofs.Common.{⊎_elim, zero-add, ◌≤ℤ◌, FitsSigned, append-nil, drop, of_z, take, to_z, w64}
@@ -14,7 +14,7 @@ use Rattle.cs_base.specs.Numbers.{clamp, floor_div, total}
 use Rattle.cs_gen.specs.Points.{at_places, full_scale, sine, harmonics, wave}
 use Rattle.cs_gen.specs.inner.Harmonics.{AreRaised, AreSums, first_harmonics, harmonic}
 
--- a sum is no farther from 0 than both together
+-- the absolute value of a sum is at most the sum of the absolute values
 unsigned_abs-sum : (x y : ℤ) → unsigned_abs (x +ℤ y) ≤ unsigned_abs x + unsigned_abs y
 unsigned_abs-sum (pos a) (pos b) = omega arith
 unsigned_abs-sum (pos a) (negsuc b) = within (pos a +ℤ negsuc b) (a + suc b) (omega (arith, ints)) (omega (arith, ints))
@@ -23,11 +23,11 @@ unsigned_abs-sum (negsuc a) (negsuc b) = omega arith
 
 -- ---- one harmonic, place by place
 
--- where a harmonic is in its turn at the next place
+-- the phase of a harmonic at the next place
 phase-more : (len step i : ℕ) → (step * i % len + step) % len ≡ step * (i + 1) % len
 phase-more len step i = mod-add-mod (step * i) len step ∙ ap (λ n. n % len) (omega arith)
 
--- a strength times the height at which a harmonic is
+-- a strength times the height at a harmonic's phase is the harmonic at this place
 pub harmonic_is : (len step i phase : ℕ) (strength height part : ℤ) → phase ≡ step * i % len
     → height ≡ wave (phase * 2 ^ 24 / len) → part ≡ floor_div (strength *ℤ height) full_scale
     → part ≡ harmonic len step strength i
@@ -36,7 +36,7 @@ harmonic_is len step i phase strength height part come is e =
     e ∙ ap (λ z. floor_div (strength *ℤ z) full_scale) is
     ∙ ap (λ k. floor_div (strength *ℤ wave (k * 2 ^ 24 / len)) full_scale) come
 
--- what is so once the numbers at the first i places are raised
+-- the state after the numbers at the first i places were increased
 pub record IsRaisedTo (len step : ℕ) (by : ℕ → ℤ) (old new : List ℤ) (i phase : ℕ) : Type 0 where
   pub come : phase ≡ step * i % len
   pub inside : phase < len
@@ -79,7 +79,7 @@ fits_128 (negsuc n) low = omega (arith, low)
 pub sum_fits : (z : ℤ) → unsigned_abs z ≤ 2 ^ 126 → to_z w128 (of_z w128 z) ≡ z
 sum_fits z low = to_z-of_z w128 z (fits_128 z low)
 
--- ---- one harmonic after the other
+-- ---- one harmonic after another
 
 total-snoc : (zs : List ℤ) (z : ℤ) → total (zs ++ z ∷ []) ≡ total zs +ℤ z
 total-snoc [] z = omega (arith, ints)
@@ -106,13 +106,13 @@ pub first_harmonics-all : (len : ℕ) (strengths : List ℤ) (j : ℕ)
 unfolding first_harmonics harmonics harmonic
 first_harmonics-all len strengths j = refl
 
--- a harmonic is the same as that which goes as far round its turn from place to place
+-- harmonics h and h mod len have the same phase at every place, so they are equal
 harmonic-mod : (len h : ℕ) (strength : ℤ) (j : ℕ) → harmonic len (h % len) strength j ≡ harmonic len h strength j
 unfolding harmonic sine
 harmonic-mod len h strength j =
     ap (λ k. floor_div (strength *ℤ wave (k * 2 ^ 24 / len)) full_scale) (mul-mod_first h j len)
 
--- one without strength adds nothing
+-- a harmonic of strength 0 adds nothing
 weak : (z : ℤ) → floor_div (pos 0 *ℤ z) full_scale ≡ pos 0
 weak z = ap (λ x. floor_div x full_scale) (zero-*ℤ z)
 
@@ -166,7 +166,7 @@ sums-room len strengths i n sums s few j d lt = let low = s.low j d lt in omega 
 
 -- ---- the heights of the wave
 
--- the heights at the first places
+-- the heights at the first i places
 pub record AreFirstHeights (len i : ℕ) (heights : List ℤ) : Type 0 where
   pub long : length heights ≡ i
   pub each : (p : ℕ) (d : ℤ) → p < i → get_or heights p d ≡ wave (p * 2 ^ 24 / len)
@@ -193,14 +193,14 @@ is_low (negsuc n) a b = omega (arith, ints)
 
 -- ---- the points
 
--- a list that was written over whole
+-- a list of which every item was overwritten
 pub written_over : (n : ℕ) (new old : List ℤ) → length new ≡ length old → n ≡ length old
     → take n (new ++ drop (length new) old) ≡ new
 written_over n new old same all =
     ap (λ xs. take n (new ++ xs)) (drop_all (length new) old (omega (arith, same)))
     ∙ ap (take n) (append-nil new) ∙ take_all n new (omega (arith, same, all))
 
--- one more sum, brought into range
+-- one more sum, clamped
 pub points-more : (sums points more : List ℤ) (i : ℕ) (point : ℤ) → i < length sums
     → points ≡ map clamp (take i sums) → more ≡ points ++ point ∷ [] → point ≡ clamp (get_or sums i (pos 0))
     → more ≡ map clamp (take (i + 1) sums)
@@ -209,7 +209,7 @@ points-more sums points more i point lt before m is =
     m ∙ ap (λ z. points ++ z ∷ []) is ∙ ap (λ xs. xs ++ clamp last ∷ []) before
     ∙ sym (map-append clamp (take i sums) (last ∷ [])) ∙ sym (ap (map clamp) (take_more sums i (pos 0) lt))
 
--- all sums, brought into range, are the points
+-- the points are all sums, clamped
 pub points_are : (len : ℕ) (strengths : List ℤ) (n : ℕ) (sums points : List ℤ)
     → AreSums len strengths (length strengths) n sums → points ≡ map clamp sums
     → points ≡ at_places n (λ j. clamp (harmonics len strengths j))

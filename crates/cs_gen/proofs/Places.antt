@@ -11,12 +11,12 @@ use Rattle.cs_gen.specs.Points.{plain_point, greatest, normalised, point, points
 use Rattle.cs_gen.specs.Tables.{IsMade}
 use Rattle.cs_gen.specs.declared.check.GenFault.TheVariants.{Size, Unknown, NegativeLength}
 
--- one more place
+-- the list after one more place
 pub map-range-push : {X : Type 0} (f : ℕ → X) (items more : List X) (j : ℕ) (x : X) → items ≡ map f (range_with_len 0 j)
     → more ≡ items ++ x ∷ [] → x ≡ f j → more ≡ map f (range_with_len 0 (j + 1))
 map-range-push f items more j x e m p = let step = map-range_with_len_more f 0 j j (omega arith) in rw step cc
 
--- what is done to each point of a list made place by place is done at each place
+-- a function mapped over a list that was built place by place can be applied at each place
 pub map-map : {X Y Z : Type 0} (g : Y → Z) (f : X → Y) (xs : List X) → map g (map f xs) ≡ map (λ x. g (f x)) xs
 map-map g f [] = refl
 map-map g f (x ∷ xs) = ap (λ zs. g (f x) ∷ zs) (map-map g f xs)
@@ -29,7 +29,7 @@ or_cases false false c h p q r = r h
 bounds_of : (x : ℕ) (r : Bool) → ((nat_le 2 x && nat_le x 65536) && r) ≡ true → (2 ≤ x) × (x ≤ 65536) × (r ≡ true)
 bounds_of x r h = (grind (arith, nat_tests), grind (arith, nat_tests), grind (arith, nat_tests))
 
--- a size that is n: its bounds, and that it is not negative
+-- the bounds of a size, which isn't negative
 abbrev Sized : ℤ → Type 0
 Sized size = (2 ≤ unsigned_abs size) × (unsigned_abs size ≤ 65537) × (pos (unsigned_abs size) ≡ size)
 
@@ -49,7 +49,7 @@ any_in_range size (x ∷ xs) all any =
     (λ e. sized size x e low (omega arith)) (λ e. sized size (x + 1) e (omega arith) (omega arith))
     (λ e. any_in_range size xs b.2 e)
 
--- a size that is accepted
+-- an accepted size is in its range
 is_size-range : (size : ℤ) → is_size size ≡ true → Sized size
 unfolding is_size lengths
 is_size-range size h = any_in_range size lengths refl h
@@ -62,13 +62,13 @@ sized_none : (a b c : Bool)
 sized_none true b c h = refl
 sized_none false b c h = absurd (some_is_none Size h)
 
--- what is accepted has a size in range
+-- an accepted table has a size in its range
 pub accepted : (size gen : ℤ) (args : List ℤ) → table_fault size gen args ≡ None → Sized size
 unfolding table_fault
 accepted size gen args h =
     is_size-range size (sized_none (is_size size) (is_gen gen) ((unsigned_abs gen == 7) && has_negative_length args) h)
 
--- the same where s and g are the size and the GEN as a call passes them
+-- an accepted table has a size in its range, if s and g are the size and the GEN as a call passes them
 pub accepted-range : (size gen : ℤ) (args : List ℤ) (s g : ℤ) → s ≡ size → g ≡ gen → table_fault s g args ≡ None
     → Sized size
 accepted-range size gen args s g es eg h = subst Sized es (accepted s g args h)
@@ -92,7 +92,7 @@ guard_below n false h = omega arith
 guard_kept : (n : ℕ) → 2 ≤ n → guard_place n < n
 guard_kept n h = guard_below n (n % 2 == 1) h
 
--- the points of a table from the points before normalising
+-- the points of a table are its points before normalising, normalised if the GEN is positive
 pub points_of-normalised : (size gen : ℤ) (args kept : List ℤ) →
     kept ≡ map (plain_point (unsigned_abs size) (unsigned_abs gen) args) (range_with_len 0 (unsigned_abs size)) →
     (if int_lt (pos 0) gen then map (normalised (greatest kept)) kept else kept) ≡ points_of size gen args
@@ -102,7 +102,7 @@ points_of-normalised size gen args kept e =
     ∙ chosen (int_lt (pos 0) gen) (plain_point (unsigned_abs size) (unsigned_abs gen) args)
     (range_with_len 0 (unsigned_abs size))
 
--- a made table, by its points
+-- the length of a table is at most its size
 len_le : (n : ℕ) → len_of n ≤ n
 len_le n = omega arith
 

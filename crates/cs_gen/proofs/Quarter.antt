@@ -1,11 +1,11 @@
--- The table of the quarter wave: its bound, found by a test of each entry.
+-- The table of the quarter wave: its bound, proved by testing each entry.
 use Rattle.std.proofs.Common.{◌≡◌, ℕ, zero, suc, ◌≤◌, Bool, true, List, [], ◌∷◌, get_or, slice_index, nat_le, refl}
 use Rattle.std.proofs.Common.{arith}
 use Rattle.std.specs.List.{list_all}
 use Rattle.std.proofs.lemmas.Bool.Decides.{nat_tests}
 use Rattle.cs_gen.specs.Points.{quarter}
 
--- a test that all entries pass, and 0 too, is passed at any place
+-- if all entries and 0 pass a test, the entry at any place passes it
 all_pass_at : (p : ℕ → Bool) (xs : List ℕ) (k : ℕ) → list_all p xs ≡ true → p 0 ≡ true → p (get_or xs k 0) ≡ true
 all_pass_at p [] k h z = z
 all_pass_at p (x ∷ xs) zero h z = grind arith

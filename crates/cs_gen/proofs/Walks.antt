@@ -1,4 +1,4 @@
--- A walk along GEN07's segments: from one to the next, and from one place to the next.
+-- A walk along GEN07's segments: from segment to segment, and from place to place.
 use Rattle.std.proofs.Common.{◌≡◌, ℕ, zero, suc, ◌+◌, ◌-◌, ◌<◌, ◌≤◌, ◌==◌, nat_lt, true, false, List, map, sum, length}
 use Rattle.std.proofs.Common.{ℤ, pos, ◌+ℤ◌, ◌-ℤ◌, ◌*ℤ◌, ◌*◌, refl, sym, ◌∙◌, ap, subst, arith, below_more}
 use Rattle.std.specs.List.{range_with_len}
@@ -37,7 +37,7 @@ HasReached-here args j k begin end p e h =
     let next : end ≡ begin_of args (k + 1) = e ∙ ap (λ b. b + length_of args k) p.begins ∙ sym (begin_of-more args k) in
     record { come = p; inside = λ _. omega arith }
 
--- what is passed at a place is passed at the next
+-- a segment that has been passed at a place has also been passed at the next place
 pub HasPassed-later : (args : List ℤ) (j k begin : ℕ) → HasReached args j k begin → HasPassed args (j + 1) k begin
 HasPassed-later args j k begin r =
     record { begins = r.come.begins; real = r.come.real; passed = λ i h. let low = r.come.passed i h in omega arith }
@@ -61,7 +61,7 @@ ends_after args j k begin r h =
 nonzero : (n : ℕ) → (n ≡ 0 → ⊥) → (n == 0) ≡ false
 nonzero n h = grind (arith, nat_tests)
 
--- the segment that a walk has reached is the one in which the place lies
+-- the segment that a walk has reached contains the place
 pub segment_at-reached : (args : List ℤ) (j k begin : ℕ) → HasReached args j k begin → segment_at args j ≡ k
 unfolding segment_at
 segment_at-reached args j k begin r =
@@ -74,7 +74,8 @@ segment_at-reached args j k begin r =
     (λ h. subst (λ x. nat_lt j (begin_of args (x + 1)) ≡ true) (sym (number_at n k (omega arith)))
     (is_below j (begin_of args (k + 1)) (r.inside (omega arith))))
 
--- the point at a place that a walk has reached: on a segment's line, at the end of all, and past it
+-- the point at a place that a walk has reached: on a segment's line, at the end of the last segment, or
+-- beyond it
 on_segment : (args : List ℤ) (j k begin : ℕ) → HasReached args j k begin → k < segments_of args →
     segments args j ≡ value_of args k +ℤ floor_div ((value_of args (k + 1) -ℤ value_of args k) *ℤ pos (j - begin))
     (pos (length_of args k))

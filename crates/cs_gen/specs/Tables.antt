@@ -1,13 +1,14 @@
--- What a made table is, for those who read it by place.
+-- The properties of a made table, for definitions that read it by place.
 use Rattle.std.specs.Prelude.{◌≡◌, ℕ, ◌+◌, ◌<◌, ◌≤◌, List, [], ◌∷◌, ◌++◌, length, take, ℤ, pos, slice_index_or}
 use Rattle.cs_gen.specs.Points.{guard_place, len_of, point, points_of}
 
--- a table as one reads it who goes between two places: its `len` points, and behind the last the guard point
+-- a table as interpolation reads it: its `len` points, followed by the guard point
 abbrev pub curve_of : List ℤ → List ℤ
 curve_of points =
     take (len_of (length points)) points ++ slice_index_or points (guard_place (length points)) (pos 0) ∷ []
 
--- a made table has as many points as its size says, each by its formula; its curve has one point more than its length
+-- a made table has as many points as its size, each by its formula; its curve has one point more than its
+-- length
 pub record IsMade (size gen : ℤ) (args points : List ℤ) : Type 0 where
   pub count : pos (length points) ≡ size
   pub fewest : 2 ≤ length points

@@ -1,4 +1,4 @@
-// GEN10: the harmonics that sound are added, one after the other, to all points.
+// GEN10: adds one harmonic after another to all points.
 ghost use Rattle.std.specs.Prelude.{ℕ, pos, ◌≡◌, ◌<◌, ◌≤◌, ◌+◌, ◌%◌, ◌^◌, ◌*ℤ◌, ◌+ℤ◌, unsigned_abs, length, IfOk};
 ghost use Rattle.std.specs.List.{All};
 ghost use Rattle.cs_base.specs.Numbers.{clamp, floor_div};
@@ -10,7 +10,7 @@ use crate::sine::{FULL_SCALE, TURN, wave};
 use cs_base::Num;
 use std::alloc::{AllocError, Global};
 
-/// The points at places 0 to `size` - 1; `strengths` are those of the harmonics 1, 2 and so on.
+/// Returns the points at places 0 to `size` - 1. `strengths` holds the strengths of harmonics 1, 2 and so on.
 pub(crate) fn harmonic_points(
     alloc: Global,
     size: u64,
@@ -32,7 +32,7 @@ pub(crate) fn harmonic_points(
     Ok(points)
 }
 
-// The heights of the wave at `len` places of its turn.
+// Returns the height of the sine wave at `len` evenly spaced places of one period.
 fn heights_of(alloc: Global, len: u64) -> Result<Vec<i64>, AllocError>
     requires some { 0 < len }
     requires wide { len ≤ 65536 }
@@ -45,7 +45,7 @@ fn heights_of(alloc: Global, len: u64) -> Result<Vec<i64>, AllocError>
     Ok(heights)
 }
 
-// Adds each harmonic that has a strength.
+// Adds every harmonic whose strength isn't 0.
 fn add_harmonics(sums: &mut [i128], heights: &[i64], strengths: &[Num])
     requires some { 0 < length heights.now }
     requires wide { length heights.now ≤ 65536 }
@@ -63,7 +63,7 @@ fn add_harmonics(sums: &mut [i128], heights: &[i64], strengths: &[Num])
     }
 }
 
-// Adds a harmonic that goes `step` places further round its turn from each point to the next.
+// Adds one harmonic. From each point to the next its phase advances by `step` places of the period.
 fn add_harmonic(sums: &mut [i128], heights: &[i64], step: u64, strength: i64)
     requires wide { length heights.now ≤ 65536 }
     requires heights { AreHeights (length heights.now) heights.now }
@@ -97,7 +97,7 @@ fn scaled(strength: i64, height: i64) -> i64
     (strength * height).div_euclid(FULL_SCALE)
 }
 
-// One step further round a turn of `len` parts.
+// Returns the phase advanced by `step`, in a period of `len` places.
 fn turned(len: u64, phase: u64, step: u64) -> u64
     requires wide { len ≤ 65536 }
     requires phase_within { phase < len }

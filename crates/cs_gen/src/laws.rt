@@ -1,10 +1,10 @@
-// What holds of every table that is accepted: calls that do nothing, whose contracts are the laws.
+// Facts about every accepted table. These functions do nothing; their contracts state the facts.
 ghost use Rattle.std.specs.Prelude.{◌≡◌, ◌∷◌, [], List, Some, None, ℤ, pos, negsuc, ◌≤ℤ◌};
 ghost use Rattle.cs_gen.specs.{Faults.table_fault, Places.place_of_index};
 ghost use Rattle.cs_gen.specs.declared.check.GenFault.TheVariants as fault;
 ghost use Rattle.cs_gen.specs.{Points.points_of, Tables.IsMade, Tables.curve_of};
 
-/// An accepted size is 2 to 65,537, and the points of an accepted table are a made table.
+/// An accepted size is from 2 to 65,537, and the points of an accepted table form a made table (`IsMade`).
 pub fn accepted_tables_are_made()
     ensures size { (size gen : ℤ) (args : List ℤ) → table_fault size gen args ≡ None
         → (pos 2 ≤ℤ size) × (size ≤ℤ pos 65537) }
@@ -12,8 +12,8 @@ pub fn accepted_tables_are_made()
         → IsMade size gen args (points_of size gen args) }
 {}
 
-/// Tables of docs/LANGUAGE.md, computed: a sine in 8 places, segments, arguments with their guard point, and
-/// arguments that are normalised.
+/// Worked examples: the tables of docs/LANGUAGE.md. They are a sine in 8 places, segments, arguments with
+/// their guard point, and normalised arguments.
 pub fn tables_worked_by_hand()
     ensures sine { points_of (pos 8) (negsuc 9) (pos 65536 ∷ [])
         ≡ pos 0 ∷ pos 46341 ∷ pos 65536 ∷ pos 46341
@@ -30,8 +30,9 @@ pub fn tables_worked_by_hand()
         ≡ pos 0 ∷ pos 65536 ∷ pos 0 ∷ negsuc 65535 ∷ pos 0 ∷ [] }
 {}
 
-/// Which tables are refused, and the place of an index, as docs/LANGUAGE.md says, computed. The size comes before the
-/// GEN, and the GEN before the lengths of segments; a length with no value after it isn't looked at.
+/// Worked examples of docs/LANGUAGE.md: which tables are refused, and the place of an index. The size is
+/// checked before the GEN, and the GEN before the lengths of segments. A length with no value after it isn't
+/// checked.
 pub fn faults_worked_by_hand()
     ensures three_points { table_fault (pos 3) (pos 2) [] ≡ None }
     ensures no_size { (table_fault (pos 1) (pos 2) [] ≡ Some fault.Size)

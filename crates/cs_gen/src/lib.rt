@@ -1,11 +1,13 @@
-//! Tables by formula: every point that a table of the profile keeps, from its size, its GEN and the arguments.
+//! Function tables: computes every point of a table from its size, its GEN and its arguments.
 //!
-//! Its one contract: `make_table` returns a made table (`IsMade`, specs/Tables.antt), or the fault that `check_table`
-//! finds, or is out of memory. Each point is a formula of its one place (specs/Points.antt). How a table is filled, by
-//! a walk along the segments, a turning phase or a second pass, may be changed without anyone above noticing.
+//! Its one contract: `make_table` returns a made table (`IsMade`, specs/Tables.antt), the fault that
+//! `check_table` finds, or an out-of-memory error. Each point is a formula of its place alone
+//! (specs/Points.antt). The way a table is filled (a walk along the segments, an advancing phase, a second
+//! pass) may be changed without anyone above noticing.
 //!
-//! To be read in this order: `check` (what is refused), `sine` (the one wave), `harmonics` (GEN10), `segments` (GEN07),
-//! `normal` (positive GENs), `place` (the places of a table), `table` (GEN02 and the whole), `laws`.
+//! In reading order: `check` (which tables are refused), `sine` (the sine wave), `harmonics` (GEN10),
+//! `segments` (GEN07), `normal` (positive GENs), `place` (the places of a table), `table` (GEN02 and
+//! `make_table`), `laws`.
 #![tactic(auto)]
 
 mod check;

@@ -1,11 +1,11 @@
-// Normalising: the greatest absolute value of a table becomes 1.
+// Normalising: scales a table so that its greatest absolute value becomes 1.
 ghost use Rattle.std.specs.Prelude.{◌≡◌, ◌<◌, ◌≤◌, ◌^◌, ◌*ℤ◌, pos, unsigned_abs, map, int_lt, if◌then◌else◌};
 ghost use Rattle.cs_base.specs.Numbers.{IsRaw, floor_div, one};
 ghost use Rattle.cs_gen.specs.Points.{greatest, normalised};
 
 use cs_base::{Num, ONE};
 
-/// Brings the greatest absolute value to 1 where the GEN is positive.
+/// Scales the points so that the greatest absolute value becomes 1, if the GEN is positive.
 pub(crate) fn normalise_for(gen_: i64, points: &mut Vec<Num>)
     ensures { let kept = points.old.items in
         points.new.items ≡ (if int_lt (pos 0) gen_ then map (normalised (greatest kept)) kept else kept) }
@@ -15,7 +15,7 @@ pub(crate) fn normalise_for(gen_: i64, points: &mut Vec<Num>)
     }
 }
 
-// Brings the greatest absolute value to 1, where there is one that isn't 0.
+// Scales the points so that the greatest absolute value becomes 1. Points that are all 0 stay as they are.
 fn normalise(points: &mut [Num])
     ensures { points.new ≡ map (normalised (greatest points.old)) points.old }
 {

@@ -1,10 +1,10 @@
-// Places of a table: how many it has before its guard point, and that of an index.
+// Places of a table: the number of places before the guard point, and the place of an index.
 ghost use Rattle.std.specs.Prelude.{◌≡◌, ◌<◌, ◌≤◌};
 ghost use Rattle.cs_gen.specs.{Places.place_of_index, Points.len_of};
 
 use cs_base::Num;
 
-/// The power of two of a table's size, which is that power or one more.
+/// The length of a table of this size: the size itself, or one less if the size is odd.
 #[inline(always)]
 pub fn len_of(size: u32) -> u32
     ensures { result ≡ len_of size }
@@ -12,7 +12,7 @@ pub fn len_of(size: u32) -> u32
     size - size % 2
 }
 
-/// The place of an index in a table of `len` points: its whole part, rounded down, brought into 0 to `len` - 1.
+/// The place of an index in a table of `len` points: the index rounded down, then clamped to 0 to `len` - 1.
 #[inline(always)]
 pub fn place_of_index(index: Num, len: u32) -> u32
     requires { 1 ≤ len }

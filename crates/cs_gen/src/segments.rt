@@ -1,4 +1,4 @@
-// GEN07: a point lies on the line of the segment in which its place is.
+// GEN07: each point is on the line of the segment that contains its place.
 ghost use Rattle.std.specs.Prelude.{◌≡◌, ◌<◌, ◌≤◌, ◌+◌, ◌*◌, ◌^◌, ◌+ℤ◌, ◌-ℤ◌, ◌*ℤ◌, pos, unsigned_abs, IfOk};
 ghost use Rattle.cs_base.specs.Numbers.{IsRaw, floor_div};
 ghost use Rattle.cs_gen.specs.{Faults.argument, Faults.segments_of, inner.Walk.HasPassed, inner.Walk.HasReached};
@@ -8,14 +8,16 @@ use crate::check::{argument, segments_of};
 use cs_base::Num;
 use std::alloc::{AllocError, Global};
 
-// A segment, by its number, and the place at which it begins.
+// Where a walk along the segments has arrived: the index of a segment, and the place at which this segment
+// begins.
 #[derive(Clone, Copy)]
 struct Walk {
     segment: usize,
     begin: u64,
 }
 
-/// The points at places 0 to `count` - 1. A length counts as its whole part, and none is negative.
+/// Returns the points at places 0 to `count` - 1. Lengths are rounded down to integers; none of them is
+/// negative.
 pub(crate) fn segment_points(
     alloc: Global,
     count: u64,
@@ -36,7 +38,7 @@ pub(crate) fn segment_points(
     Ok(points)
 }
 
-// Goes on to the segment in which place `j` lies.
+// Walks on to the segment that contains place `j`.
 fn reached(args: &[Num], from: Walk, j: u64) -> Walk
     requires near { j < 65537 }
     requires passed { HasPassed args.now j from.segment from.begin }
@@ -74,7 +76,7 @@ fn point(args: &[Num], walk: Walk, j: u64) -> Num
     }
 }
 
-// Place `into` of `length` on the line between two values, rounded down.
+// The value `into` places along a line of `length` places from `value` to `next`, rounded down.
 fn on_line(value: i64, next: i64, into: u64, length: u64) -> Num
     requires value { IsRaw value }
     requires next { IsRaw next }
@@ -91,7 +93,7 @@ fn difference(next: i64, value: i64) -> i128
     i128::from(next) - i128::from(value)
 }
 
-// `into` of `length` parts of a rise, rounded down.
+// The part `into` / `length` of a rise, rounded down.
 fn part(rise: i128, into: u64, length: u64) -> i128
     requires small { unsigned_abs rise < 2 ^ 48 }
     requires inside { into < length }
@@ -100,7 +102,7 @@ fn part(rise: i128, into: u64, length: u64) -> i128
     (rise * i128::from(into)).div_euclid(i128::from(length))
 }
 
-// A value that is raised, where it stays in range.
+// The sum of a value and a rise, which is in the range of a number.
 fn moved(value: i64, rise: i128) -> Num
     requires { IsRaw (value +ℤ rise) }
     ensures { result ≡ value +ℤ rise }
@@ -108,7 +110,7 @@ fn moved(value: i64, rise: i128) -> Num
     Num::of_raw((i128::from(value) + rise) as i64)
 }
 
-// A segment's length in points: the whole part of its argument.
+// A segment's length in points: its argument, rounded down.
 fn length_of(args: &[Num], segment: usize) -> u64
     requires { segment < segments_of args.now }
     ensures value { result ≡ length_of args.now segment }

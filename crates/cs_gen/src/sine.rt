@@ -1,18 +1,19 @@
-// The sine of the profile: 65 whole values of a quarter turn, mirrored and interpolated.
+// The sine of the profile: 65 integers describe a quarter of the period; the rest is mirrored and
+// interpolated.
 ghost use Rattle.std.specs.Prelude.{◌≡◌, ◌<◌, ◌≤◌, ◌*◌, ◌/◌, ◌^◌, ◌*ℤ◌, ◌-ℤ◌, ◌+ℤ◌, ◌≤ℤ◌, pos, neg_ℤ, slice_index};
 ghost use Rattle.cs_base.specs.Numbers.{floor_div};
 ghost use Rattle.cs_gen.specs.Points.{wave_at, wave, full_scale, quarter};
 
-/// The height of the wave at its crest.
+/// The height of the sine wave at its crest.
 pub(crate) const FULL_SCALE: i64 = 32_767;
 
-/// The parts of a turn of the wave.
+/// The number of phase steps in one period of the wave.
 pub(crate) const TURN: u64 = 16_777_216;
 
-// The parts of a turn from one of the wave's 256 places to the next.
+// The number of phase steps between two neighbouring places of the wave, which has 256 of them.
 const PARTS: u64 = 65_536;
 
-// The rising quarter of a wave of 256 places, from place 0 to place 64.
+// The rising quarter of a sine wave of 256 places, from place 0 to place 64.
 const QUARTER: [u16; 65] = [
     0, 804, 1608, 2410, 3212, 4011, 4808, 5602, 6393, 7179, 7962, 8739, 9512, 10278, 11039, 11793,
     12539, 13279, 14010, 14732, 15446, 16151, 16846, 17530, 18204, 18868, 19519, 20159, 20787,
@@ -21,7 +22,7 @@ const QUARTER: [u16; 65] = [
     31971, 32137, 32285, 32412, 32521, 32609, 32678, 32728, 32757, 32767,
 ];
 
-/// The wave at `w` of 2^24 parts of its turn, from -32,767 to 32,767.
+/// The sine wave at phase `w`, in 2^24ths of its period. The result is from -32,767 to 32,767.
 #[tactic(auto, unfolding(crate::specs::Points::wave))]
 pub(crate) fn wave(w: u64) -> i64
     requires { w < 2 ^ 24 }
@@ -36,7 +37,7 @@ pub(crate) fn wave(w: u64) -> i64
     )
 }
 
-// A value on the line from here to the next place.
+// Interpolates between two neighbouring places. `fraction` is in 65,536ths.
 fn between(here: i64, next: i64, fraction: u64) -> i64
     requires fraction { fraction < 65536 }
     requires here_above { neg_ℤ full_scale ≤ℤ here }
@@ -50,7 +51,7 @@ fn between(here: i64, next: i64, fraction: u64) -> i64
     here + part(next - here, fraction)
 }
 
-// So many 65,536ths of a difference, rounded down.
+// The part `fraction` / 65,536 of a difference, rounded down.
 fn part(difference: i64, fraction: u64) -> i64
     requires fraction { fraction < 65536 }
     requires above { neg_ℤ (pos 65534) ≤ℤ difference }

@@ -1,4 +1,4 @@
-// A table by its size, its GEN and the arguments.
+// Makes a table from its size, its GEN and its arguments.
 ghost use Rattle.std.specs.Prelude.{◌≡◌, ◌≤◌, IfOk, IfErr, OnOk, None, unsigned_abs};
 ghost use Rattle.cs_gen.specs.Faults.{IsCauseOf, argument, table_fault};
 ghost use Rattle.cs_gen.specs.{Points.at_places, Points.plain_point, Tables.IsMade};
@@ -10,16 +10,16 @@ use crate::segments::segment_points;
 use cs_base::{Items, Num, Or};
 use std::alloc::{AllocError, Global};
 
-/// The points that a table keeps.
+/// The points of a table, the guard point included.
 pub type Points = Items<Num>;
 
-/// All points that a table of this size keeps, `size` of them, by its GEN; a positive GEN normalises. The fault
-/// is that of `check_table`.
+/// Returns the points of a table, `size` of them, computed by its GEN; a positive GEN normalises. Fails with
+/// the fault that `check_table` finds, or if memory runs out.
 pub fn make_table(alloc: Global, size: i64, gen_: i64, args: &[Num]) -> Result<Points, Or<GenFault>>
     ensures made { IfOk result (IsMade size gen_ args.now) }
     ensures accepted { OnOk result (table_fault size gen_ args.now ≡ None) }
 
-    // A fault is found before memory is asked for.
+    // A fault is found before any memory is allocated.
     ensures refused { IfErr result (IsCauseOf (table_fault size gen_ args.now)) }
 {
     if let Err(fault) = check_table(size, gen_, args) {
@@ -43,7 +43,7 @@ fn plain_points(alloc: Global, size: u64, gen_: u64, args: &[Num]) -> Result<Vec
     }
 }
 
-// GEN02: the arguments themselves, and 0 where there are none left.
+// GEN02: the arguments themselves, followed by zeros.
 fn argument_points(alloc: Global, count: u64, args: &[Num]) -> Result<Vec<Num>, AllocError>
     ensures { IfOk result (λ points. points.items ≡ at_places count (argument args.now)) }
 {

@@ -1,4 +1,4 @@
--- A statement's fields, filled by those of the one before.
+-- The fields of a statement, filled in from the statement before.
 use Rattle.std.proofs.Common.{◌≡◌, ℕ, ℤ, zero, suc, ◌+◌, ◌-◌, ◌<◌, ◌≤◌, min, max, Bool, true, false, List, [], ◌∷◌}
 use Rattle.std.proofs.Common.{◌++◌, length, drop, take, map, set, get_or, arith, ap, sym, ◌∙◌, refl, append_assoc}
 use Rattle.std.proofs.Common.{Option, Some, None, Result, Ok, Err, IfOk, IsSome, subst, slice_get, unwrap_or}
@@ -8,9 +8,9 @@ use Rattle.std.proofs.lemmas.List.{drop_more, drop_all, get_or_at, take_more, se
 use Rattle.std.proofs.lemmas.List.{same_lists, drop-drop, length-append, length-drop}
 use Rattle.std.proofs.lemmas.List.FromFn.{length-map-range_with_len, get_or-map-range_with_len}
 use Rattle.cs_base.specs.{declared.fault.ScoreKind.ScoreKind, declared.fault.ScoreKind.TheVariants.NothingToCarry}
-use Rattle.cs_fields.specs.{declared.field.Field.Field, declared.field.Signed.Signed, Fields.number_of, Fields.raw_of}
-use Rattle.cs_fields.specs.declared.field.InstrumentNumber.{InstrumentNumber}
-use Rattle.cs_fields.specs.declared.field.Field.TheVariants.{Number, Same}
+use Rattle.cs_score.specs.{declared.field.Field.Field, declared.field.Signed.Signed, Fields.number_of, Fields.raw_of}
+use Rattle.cs_score.specs.declared.field.InstrumentNumber.{InstrumentNumber}
+use Rattle.cs_score.specs.declared.field.Field.TheVariants.{Number, Same}
 use Rattle.cs_score.specs.{declared.last.LastNote.LastNote, declared.last.NoteRead.NoteRead, declared.row.Row.Row}
 use Rattle.cs_score.specs.declared.statement_fault.StatementFault.{StatementFault}
 use Rattle.cs_score.specs.{Notes.values_of, Notes.gap_by, inner.State.Answers, inner.State.IsKept}
@@ -31,7 +31,7 @@ get_filled (f ∷ fs) [] k d l m = absurd (omega arith)
 get_filled (f ∷ fs) (g ∷ gs) zero d l m = refl
 get_filled (f ∷ fs) (g ∷ gs) (suc k) d l m = get_filled fs gs k d (omega arith) (omega arith)
 
--- the fields that both have, then those that one of them has
+-- the fields that both statements have, followed by the fields that only one of them has
 pub filled_end : (n : ℕ) (ws before : List Field) → n ≡ min (length ws) (length before)
     → take n (filled ws before) ++ (drop n before ++ drop n ws) ≡ filled ws before
 filled_end zero [] before e = append-nil before
@@ -41,7 +41,7 @@ filled_end (suc n) [] before e = absurd (omega arith)
 filled_end (suc n) (f ∷ fs) [] e = absurd (omega arith)
 filled_end (suc n) (f ∷ fs) (g ∷ gs) e = ap (λ t. filled_one f g ∷ t) (filled_end n fs gs (omega arith))
 
--- past the written fields those of the statement before are taken whole
+-- after the written fields, the previous statement's fields follow, unchanged
 pub filled_rest : (n : ℕ) (ws before : List Field) → length ws ≤ n → drop n (filled ws before) ≡ drop n before
 filled_rest n [] before l = refl
 filled_rest zero (f ∷ fs) before l = absurd (omega arith)
@@ -64,7 +64,7 @@ values_behind (suc k) (f ∷ fs) zs e =
     values_behind k fs (drop 1 zs) (tail_values (number_of NothingToCarry f) (values_of NothingToCarry fs) zs e)
     ∙ ap Ok (drop-drop k 1 zs ∙ ap (λ n. drop n zs) next)
 
--- and so are their values
+-- after the written fields, the values are the previous statement's values
 pub taken_behind : (ws before fields : List Field) (more : List ℤ) → AreValues before more → fields ≡ filled ws before
     → IsTakenFrom (length ws) fields more
 taken_behind ws before fields more v e =
@@ -78,7 +78,7 @@ taken_behind ws before fields more v e =
       len = omega (arith, ap length same, v.1, length-drop {A = Field}, length-drop {A = ℤ});
     }
 
--- all fields are written
+-- a statement of which all fields are written
 pub all_written : (ws : List Field) → IsTakenFrom (length ws) ws []
 all_written ws =
     let k = length ws - 3 in
@@ -103,7 +103,7 @@ with_none : (r : Result (List ℤ) ScoreKind) → r ≡ and_then r (λ ys. Ok ys
 with_none (Ok ys) = refl
 with_none (Err k) = refl
 
--- the values of the first fields, then those of the others
+-- the values of the first k fields, followed by the values of the remaining ones
 values_parted : (k : ℕ) (fs : List Field) → values_of NothingToCarry fs ≡
     and_then (values_of NothingToCarry (take k fs)) (λ xs. and_then (values_of NothingToCarry (drop k fs))
     (λ ys. Ok (xs ++ ys)))
@@ -114,7 +114,7 @@ values_parted (suc k) (f ∷ fs) =
     ap (λ s. and_then (number_of NothingToCarry f) (λ n. and_then s (λ zs. Ok (raw_of n ∷ zs)))) (values_parted k fs)
     ∙ parted_step (number_of NothingToCarry f) (v (take k fs)) (v (drop k fs))
 
--- a statement's own values, in place of the first ones of the statement before
+-- a statement's own values replace the first values of the previous statement
 pub own_values : (written : ℕ) (fields : List Field) (before own : List ℤ) → IsTakenFrom written fields before
     → values_of NothingToCarry (take (written - 3) (drop 3 fields)) ≡ Ok own → length own ≡ written - 3
     → AreValues fields (own ++ drop (length own) before)
@@ -136,7 +136,7 @@ own_values written fields before own t v l =
           ),
     )
 
--- the first fault of its own is that of all
+-- the first fault in a statement's own fields is the first fault in all its fields
 pub own_fault : (k : ℕ) (fs : List Field) (r : Result (List ℤ) StatementFault) (e : StatementFault)
     → IsErrAnd r (λ y. y ≡ e) → Answers {A = List ℤ} (Err e) (values_of NothingToCarry (take k fs))
     → Answers r (values_of NothingToCarry fs)
@@ -149,7 +149,7 @@ own_fault k fs (Err (fault.Kind g)) (fault.Kind f) i h =
 own_fault k fs (Err fault.OutOfMemory) e i h = tt
 own_fault k fs (Err (fault.Kind g)) fault.OutOfMemory i h = cc
 
--- what the next statement may take from one is what the code keeps of it
+-- the stored state of a statement is the state that the next one may carry from
 kept_one : (last next : LastNote) (written fields : List Field) (instr : InstrumentNumber) (p2 : ℕ)
     → instr_read last written ≡ Ok instr →
     fields ≡ fields_read last written → p2_read last written ≡ Ok p2 → IsLast instr p2 fields next
@@ -172,7 +172,7 @@ pub kept_is : (r : Result NoteRead StatementFault) (last : LastNote) (written : 
 kept_is (Ok read) last written instr p2 fields i f p l = kept_one last read.last written fields instr p2 i f p l
 kept_is (Err e) last written instr p2 fields i f p l = tt
 
--- one field more
+-- one more field is filled in
 pub filled_more : (ws before now : List Field) (k : ℕ) (v d : Field) → k < length ws → k < length before
     → v ≡ filled_one (get_or ws k d) (get_or before k d) → now ≡ take k (filled ws before) ++ drop k before
     → set now k v ≡ take (k + 1) (filled ws before) ++ drop (k + 1) before
@@ -196,7 +196,7 @@ now_at ws before now k d l m e =
 
 -- ---- each field by looking back
 
--- the code's way: the row of the statement before, filled
+-- the code's method: the previous statement, with its omitted fields filled in
 abbrev pub kept_fields : List Row → List Field
 kept_fields [] = []
 kept_fields (row ∷ above) = completed (continues (row ∷ above)) row.fields (kept_fields above)
@@ -257,7 +257,7 @@ fields_are_kept rows =
     get_or-map-range_with_len at 0 n k k d l (omega arith) ∙ ap (λ f. unwrap_or f Same) (field_is_kept rows k)
     ∙ get_or_is (kept_fields rows) k d (omega arith))
 
--- all fields of a statement, by those of the one before
+-- all fields of a statement, from the fields of the previous one
 pub fields_next : (row : Row) (above : List Row)
     → fields (row ∷ above) ≡ completed (continues (row ∷ above)) row.fields (fields above)
 fields_next row above =

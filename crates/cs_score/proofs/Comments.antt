@@ -1,4 +1,4 @@
--- The text without its comments: byte by byte, as the code reads it, and by its pieces.
+-- The text without its comments: byte by byte, as the code reads it, and piece by piece.
 use Rattle.std.proofs.Common.{◌≡◌, ℕ, zero, suc, ◌+◌, ◌-◌, ◌<◌, ◌≤◌, ◌==◌, max, Bool, true, false, List, [], ◌∷◌, ◌++◌}
 use Rattle.std.proofs.Common.{length, drop, take, get_or, arith, refl, ap, sym, ◌∙◌, append_assoc, append-nil}
 use Rattle.std.proofs.{Common.if◌then◌else◌, Math.Seq.drop-nil, Math.Seq.drop-append_seam, Math.Seq.take-append_seam}
@@ -30,7 +30,7 @@ no_pieces (suc n) =
     ap (λ t. t ++ plain_pieces n (drop (max 1 (comment_len [])) [])) (no_piece (comment_len []))
     ∙ ap (plain_pieces n) (drop-nil (max 1 (comment_len []))) ∙ no_pieces n
 
--- as many pieces as bytes are all
+-- as many pieces as there are bytes cover the complete text
 enough : (n m : ℕ) (text : List ℕ) → length text ≤ n → length text ≤ m → plain_pieces n text ≡ plain_pieces m text
 enough zero m [] l k = sym (no_pieces m)
 enough zero m (b ∷ rest) l k = absurd (omega arith)
@@ -41,7 +41,7 @@ enough (suc n) (suc m) text l k =
     (enough n m (drop (max 1 (comment_len text)) text) (shorter (comment_len text) n text l)
     (shorter (comment_len text) m text k))
 
--- what is left of the plain form, where some bytes of the text are of a comment that began before
+-- the rest of the plain form, if the first `hidden` bytes belong to a comment that began earlier
 abbrev pub behind : ℕ → List ℕ → List ℕ
 behind hidden text = spaces (take hidden text) ++ plain_of (drop hidden text)
 
@@ -95,7 +95,7 @@ bytes_read text plain whole at hidden all read =
     sym (append-nil plain) ∙ ap (λ t. plain ++ t) (sym (ap (behind hidden) (drop_all at text all) ∙ none_behind hidden))
     ∙ read
 
--- the text without its comments is as long
+-- the text without its comments has the same length
 length-piece : (c : ℕ) (text : List ℕ) → length (plain_piece c text) + length (drop (max 1 c) text) ≡ length text
 length-piece zero text = omega (arith, length-take 1 text, length-drop 1 text)
 length-piece (suc c) text =
@@ -123,7 +123,7 @@ length-pieces (suc n) text l =
 pub length-plain : (text : List ℕ) → length (plain_of text) ≡ length text
 length-plain text = length-pieces (length text) text (omega arith)
 
--- the first of some pieces
+-- the plain form of the first piece
 module _ (plain : List ℕ → List ℕ) (rest : List ℕ) where
   piece_first : (comment : Bool) (bytes : List ℕ) → 0 < length bytes → (comment ≡ false → length bytes ≡ 1)
       → plain_piece (if comment then length bytes else 0) (bytes ++ rest)

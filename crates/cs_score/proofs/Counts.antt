@@ -1,4 +1,4 @@
--- What the limits count, with one statement more.
+-- The counts for the limits after one more statement.
 use Rattle.std.proofs.Common.{◌≡◌, ℕ, ◌+◌, ◌≤◌, Bool, true, false, cond, ◌==◌, ◌||◌, Option, Some, None, List, [], ◌∷◌}
 use Rattle.std.proofs.Common.{◌++◌, length, nat_lt, arith, refl, ap, sym, subst, ◌∙◌, ⊎_elim, append-nil, append_assoc}
 use Rattle.std.proofs.Common.{if◌then◌else◌}
@@ -13,7 +13,7 @@ use Rattle.cs_score.specs.Limits.{at_statement, counts, different, first_at, is_
 use Rattle.cs_score.specs.inner.Counts.{HasCount, HasNumbers, Holds, IsSeen}
 use Rattle.cs_base.specs.declared.limit.Limit.TheVariants as limit
 
--- ---- the first item that passes a test, with one item more
+-- ---- the first item that passes a test, after one more item
 
 stays_by : {A : Type 0} (b : Bool) (x y : A) (now later : Option A) → (if b then Some y else now) ≡ Some x
     → (now ≡ Some x → later ≡ Some x) → (if b then Some y else later) ≡ Some x
@@ -44,7 +44,7 @@ first_more passes before (y ∷ xs) x h =
     (λ none. first_more passes (before ++ y ∷ []) xs x none
     ∙ ap (λ l. if passes l x then Some x else None) (append_assoc before (y ∷ []) (xs ++ x ∷ [])))
 
--- a refusal stays the first
+-- the first limit hit stays the first
 hit_stays : (which : Limit) (passes : List ScoreStmt → ScoreStmt → Bool) (all : List ScoreStmt) (s : ScoreStmt)
     (h : LimitHit) → Some h ≡ at_statement which (first_at passes [] all)
     → Some h ≡ at_statement which (first_at passes [] (all ++ s ∷ []))
@@ -59,7 +59,7 @@ none_first : (which : Limit) (o : Option ScoreStmt) → None ≡ at_statement wh
 none_first which None h = refl
 none_first which (Some x) h = absurd (cc)
 
--- a statement more, where none was refused before
+-- one more statement, if no limit was hit before
 hit_more : (which : Limit) (passes : List ScoreStmt → ScoreStmt → Bool) (all : List ScoreStmt) (s : ScoreStmt)
     (b : Bool) → None ≡ at_statement which (first_at passes [] all) → b ≡ passes (all ++ s ∷ []) s →
     (if b then Some (record { limit = which; line = s.line }) else None) ≡ at_statement which
@@ -75,7 +75,7 @@ hit_more which passes all s b e t =
 
 -- ---- table numbers
 
--- how many different numbers there are with one more
+-- the number of different numbers after one more
 one_more : (a b c : Bool) (d : ℕ) → (b ≡ true → a ≡ c) →
     cond (a || b) (d + cond c 0 1) (d + cond c 0 1 + 1) ≡ cond a d (d + 1) + cond (b || c) 0 1
 one_more true true true d h = omega arith
@@ -113,7 +113,7 @@ different_push (n ∷ xs) m =
     (any_push xs m n ∙ ap (λ b. list_any (λ k. k == n) xs || b) (flipped m n)) (different_push xs m)
     ∙ one_more (list_any (λ k. k == n) xs) (n == m) (list_any (λ k. k == m) xs) (different xs) (same_any n m xs)
 
--- one more number that was seen, or wasn't
+-- one more number, which was seen before or wasn't
 or_true : (b : Bool) → (b || true) ≡ true
 or_true true = refl
 or_true false = refl
@@ -151,7 +151,7 @@ numbers_push (x ∷ xs) s =
     append_assoc (own_number x.what) (numbers_of xs) (own_number s.what)
     ∙ ap (λ r. own_number x.what ++ r) (numbers_push xs s)
 
--- ---- what is counted of no statement, of one more, and after a refusal
+-- ---- the counts of no statement, of one more, and after a limit hit
 
 some_of : (o : Option LimitHit) → is_some o ≡ true → (h : LimitHit) × (o ≡ Some h)
 some_of None e = absurd (let wrong : false ≡ true = e in cc)
@@ -236,9 +236,9 @@ count_more all s events next e before add hit =
           (no_hit (nat_lt 100000 next.count) (record { limit = limit.Events; line = s.line }) (sym hit ∙ h));
     }
 
--- ---- what is kept
+-- ---- the stored statements
 
--- where no limit is passed with one statement more, none was before
+-- if no limit is hit after one more statement, none was hit before
 none_before : (which : Limit) (passes : List ScoreStmt → ScoreStmt → Bool) (all : List ScoreStmt) (s : ScoreStmt) →
     None ≡ at_statement which (first_at passes [] (all ++ s ∷ [])) → at_statement which (first_at passes [] all) ≡ None
 none_before which passes all s e = by_first (first_at passes [] all) refl

@@ -1,10 +1,10 @@
--- What the code keeps says the same as looking back.
+-- The stored state agrees with looking back at all rows.
 use Rattle.std.proofs.Common.{◌≡◌, ℕ, ℤ, Bool, true, false, ◌&&◌, List, [], ◌∷◌, ap, sym, ◌∙◌, refl, Option, Some, None}
 use Rattle.std.proofs.Common.{Result, Ok, Err, slice_get, nat_eq, if◌then◌else◌, subst}
 use Rattle.std.specs.{HashMap.get, Option.option_or}
 use Rattle.cs_base.specs.{declared.fault.ScoreKind.ScoreKind, declared.fault.ScoreKind.TheVariants.NothingToCarry}
-use Rattle.cs_fields.specs.{declared.field.Field.Field, declared.field.Field.TheVariants.After}
-use Rattle.cs_fields.specs.declared.field.InstrumentNumber.{InstrumentNumber}
+use Rattle.cs_score.specs.{declared.field.Field.Field, declared.field.Field.TheVariants.After}
+use Rattle.cs_score.specs.declared.field.InstrumentNumber.{InstrumentNumber}
 use Rattle.cs_gen.specs.Faults.{table_fault}
 use Rattle.cs_score.specs.declared.last.LastNote.{LastNote}
 use Rattle.cs_score.specs.{declared.past.Past.Past, declared.row.StatementLetter.StatementLetter, declared.row.Row.Row}
@@ -114,7 +114,7 @@ asked_by_is : (above : List Row) (past : Past) (row : Row) (l : StatementLetter)
 asked_by_is above past row l k =
     λ i. asked_of (note_is above past row k i) (table_is above past row.fields k i) row.fields l
 
--- what a row asks for, by what the code keeps, is what it asks for by the rows above
+-- the content of a row from the stored state is its content after the rows above
 pub asked_is : (above : List Row) (past : Past) (row : Row) → Keeps above past
     → asked_after past row row.letter ≡ asked above row
 asked_is above past row k = asked_by_is above past row row.letter k
@@ -125,7 +125,7 @@ instr_more : (above : List Row) (past : Past) (row : Row) (next : LastNote) (l :
 instr_more above past row next letter.Note k h = sym h.is_instr ∙ instr_is above past row k
 instr_more above past row next _ k h = ap p1_before h
 
--- of an `i` statement its parts are kept
+-- the state of an `i` statement is stored
 kept_by : (past : Past) (row : Row) (next : LastNote) (l : StatementLetter) → LastFollows past.last row next l
     → is_note_letter l ≡ true → IsKept past.last row.fields next
 kept_by past row next letter.Note h e = h
@@ -142,7 +142,7 @@ gap_more above past row next k h =
     ∙ ap (gap_by (p1 (row ∷ above)))
     (ap (λ fs. slice_get fs 2) (fields_more above past row next k h) ∙ sym (field_is (row ∷ above) 2))
 
--- the code keeps of one row more what it kept of those above
+-- the state after one more row
 pub row_more : (above : List Row) (past : Past) (row : Row) (next : Past) → Keeps above past → Follows past row next
     → Keeps (row ∷ above) next
 row_more above past row next k f = record {
@@ -155,7 +155,7 @@ row_more above past row next k f = record {
   fields = λ e. fields_more above past row next.last k (kept_by past row next.last row.letter f.last e);
 }
 
--- before the first row
+-- the state before the first row
 pub nothing_kept : (past : Past) → past.base ≡ 0 → ((n : ℕ) → get nat_eq past.sizes n ≡ None) → past.last.instr ≡ None
     → Keeps [] past
 nothing_kept past b s i = record {
@@ -167,7 +167,7 @@ nothing_kept past b s i = record {
   fields = λ e. absurd (let wrong : false ≡ true = e in cc);
 }
 
--- ---- a row that gives no size
+-- ---- a row that sets no size
 
 or_none : (x : Option ℤ) → x ≡ option_or x None
 or_none None = refl

@@ -1,4 +1,4 @@
--- The lines of a text, one by one.
+-- Reading the lines of a text one by one.
 use Rattle.std.proofs.Common.{◌≡◌, ℕ, ◌+◌, ◌-◌, ◌<◌, Bool, true, false, List, [], ◌∷◌, ◌++◌, length, drop, take, map}
 use Rattle.std.proofs.Common.{arith, ap, sym, ◌∙◌, refl, subst, if◌then◌else◌}
 use Rattle.std.specs.List.{prefix_len}
@@ -7,7 +7,7 @@ use Rattle.cs_score.specs.{declared.row.Row.Row, Rows.row_at, Rows.row_of, Rows.
 use Rattle.cs_base.specs.Lines.{Excerpt, Line, is_blank, is_feed, line, line_after, lines_from, next_len, with_byte}
 use Rattle.cs_base.proofs.LineCuts.{Cut, cut_at, line_len}
 
--- a line without its number, which is none of the text with comments
+-- a line without its line number
 abbrev unnumbered : Line → ℕ × List ℕ
 unnumbered l = (l.at, l.bytes)
 
@@ -31,7 +31,7 @@ with_byte_there : (n at b : ℕ) (ls : List Line)
 with_byte_there n at b [] = refl
 with_byte_there n at b (l ∷ ls) = refl
 
--- places and bytes of lines, whatever the first one's number
+-- places and bytes of lines don't depend on the number of the first line
 same_places : (n m at : ℕ) (text : List ℕ)
     → map unnumbered (lines_from n at text) ≡ map unnumbered (lines_from m at text)
 same_places n m at [] = refl
@@ -56,7 +56,7 @@ rows_renumbered source n m at text =
     rows_by_place source (lines_from n at text) ∙ ap (rows_there source) (same_places n m at text)
     ∙ sym (rows_by_place source (lines_from m at text))
 
--- a line's statement, then those of the lines after it
+-- the statement of a line, followed by the statements of the lines after it
 pub row_read : (text : Excerpt) (plain : List ℕ) (at n indent m line : ℕ) (row : List Row) → at < length plain
     → n ≡ line_len (drop at plain)
     → indent ≡ prefix_len is_blank (take n (drop at plain)) → m ≡ next_len (drop at plain)

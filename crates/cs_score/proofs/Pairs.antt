@@ -1,12 +1,12 @@
--- The pairs of a tempo, one by one, and their ranges.
+-- Reading the pairs of a tempo one by one, and their ranges.
 use Rattle.std.proofs.Common.{◌≡◌, ℕ, ◌+◌, ◌<◌, ◌≤◌, ◌==◌, true, List, ◌∷◌, ◌++◌, length, drop, get_or, arith, ap, []}
 use Rattle.std.proofs.Common.{sym, ◌∙◌, refl, subst, append_assoc, Option, Some, None, Result, Ok, Err, nat_le}
 use Rattle.std.specs.Result.{IsErrAnd}
 use Rattle.std.proofs.lemmas.{List.drop_more, List.drop_all, List.append-nil, Bool.Decides.nat_tests}
 use Rattle.cs_base.specs.declared.fault.ScoreKind.{ScoreKind}
 use Rattle.cs_base.specs.declared.fault.ScoreKind.TheVariants.{BadNumber, MissingField}
-use Rattle.cs_fields.specs.{declared.field.Signed.Signed, declared.field.Field.Field, Fields.number_of}
-use Rattle.cs_fields.specs.declared.field.Field.TheVariants.{Number}
+use Rattle.cs_score.specs.{declared.field.Signed.Signed, declared.field.Field.Field, Fields.number_of}
+use Rattle.cs_score.specs.declared.field.Field.TheVariants.{Number}
 use Rattle.cs_score.specs.{Carry.and_then, Notes.zero, inner.State.Answers}
 use Rattle.cs_score.specs.declared.statement_fault.StatementFault.{StatementFault}
 use Rattle.cs_score.specs.declared.statement.TempoPoint.{TempoPoint}
@@ -14,27 +14,27 @@ use Rattle.cs_score.specs.Ranges.{beats_end, AreRising, AreTempoPoints}
 use Rattle.cs_score.specs.Statements.{follows, as_beat, as_tempo, points_of}
 use Rattle.cs_score.specs.declared.statement_fault.StatementFault.TheVariants as fault
 
--- a fault that is found is the one that is meant
+-- the fault that was found is the definition's fault
 pub kind_is : {A : Type 0} → (r : Result A StatementFault) (meant : Result A ScoreKind) (k : ScoreKind)
     → IsErrAnd r (λ y. y ≡ fault.Kind k) → meant ≡ Err k → Answers r meant
 kind_is (Ok x) meant k i e = elim i [ ]
 kind_is (Err (fault.Kind g)) meant k i e = let same : g ≡ k = cc in e ∙ ap (λ x. Err x) (sym same)
 kind_is (Err fault.OutOfMemory) meant k i e = tt
 
--- two readings that went well
+-- a reading that succeeded in two steps succeeded in each
 pub and_then_ok : {A B E : Type 0} → (r : Result A E) (f : A → Result B E) (y : B) → and_then r f ≡ Ok y
     → (x : A) × (r ≡ Ok x) × (f x ≡ Ok y)
 and_then_ok (Ok x) f y e = (x, refl, e)
 and_then_ok (Err k) f y e = cc
 
--- one reading after another, where the first went well
+-- two readings, of which the first succeeded
 pub and_then_by : {A B E : Type 0} → (r : Result A E) (f : A → Result B E) (x : A) → r ≡ Ok x → and_then r f ≡ f x
 and_then_by r f x e = ap (λ s. and_then s f) e
 
 pub and_then_fault : {A B E : Type 0} → (r : Result A E) (f : A → Result B E) (k : E) → r ≡ Err k → and_then r f ≡ Err k
 and_then_fault r f k e = ap (λ s. and_then s f) e
 
--- what a read past the end would give
+-- the value read beyond the end of a list
 abbrev pub empty : Field
 empty = Number zero
 
@@ -130,7 +130,7 @@ pub beat_fault_read : (fs : List Field) (at : ℕ) (last : Option ℕ) (points :
 beat_fault_read fs at last points n k whole l e g read =
     fault_read fs at last points k whole l (beat_fault last (get_or fs at empty) (drop (at + 1) fs) n k e g) read
 
--- a beat without its tempo
+-- a beat without a tempo
 pub odd_read : (fs : List Field) (at : ℕ) (last : Option ℕ) (points : List TempoPoint) (n : Signed) (beat : ℕ)
     (whole : Result (List TempoPoint) ScoreKind)
     → at < length fs → length fs ≤ at + 1 → number_of BadNumber (get_or fs at empty) ≡ Ok n → as_beat last n ≡ Ok beat

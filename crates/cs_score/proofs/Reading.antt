@@ -1,4 +1,4 @@
--- One pass over the lines: what was read, and one line more.
+-- One pass over the lines: the state so far, and one more line.
 use Rattle.std.proofs.Common.{◌≡◌, ℕ, ◌≤◌, Bool, true, false, List, [], ◌∷◌, ◌++◌, length, ap, sym, ◌∙◌, refl, subst}
 use Rattle.std.proofs.Common.{append_assoc, Option, Some, None, Result, Ok, Err, if◌then◌else◌}
 use Rattle.std.specs.Option.{option_to_list}
@@ -22,7 +22,7 @@ pub score_is : (text : Excerpt) → score_of text ≡ statements_of [] (up_to_en
 unfolding score_of
 score_is text = refl
 
--- what has been read of a text up to a place: the rows above it, their statements, and what the code keeps of both
+-- the state at a place of the text: the rows above it, their statements, and the stored state of both
 pub record Read (text : Excerpt) (plain : List ℕ) (at : ℕ) (past : Past) (kept : KeptStatements) : Type 0 where
   pub above : List Row
   pub all : List ScoreStmt
@@ -57,7 +57,7 @@ blank_read text plain at next past kept e r = record {
   whole = r.whole ∙ ap (λ rows. with_front r.all (statements_of r.above (up_to_end rows))) e;
 }
 
--- one statement more
+-- one more statement
 joined : (out these : List ScoreStmt) (r : Result (List ScoreStmt) ScoreFault)
     → with_front out (and_then r (λ more. Ok (these ++ more))) ≡ with_front (out ++ these) r
 joined out these (Ok more) = ap Ok (sym (append_assoc out these more))
@@ -88,7 +88,7 @@ row_read text plain at next past past' kept kept' row e more one r =
           ∙ first_row r.above row rows one.these r.all asks;
     }
 
--- the last statement, an `e`
+-- the last statement, which is an `e`
 pub end_read : (text : Excerpt) (plain : List ℕ) (at next : ℕ) (past past' : Past) (kept kept' : KeptStatements)
     (row : Row) → rows_from text plain at ≡ row ∷ rows_from text plain next → is_end row.letter ≡ true
     → RowRead past kept row past' kept' → Read text plain at past kept → IsWhole text kept'
@@ -154,7 +154,7 @@ line_fault_read text plain at next past kept None f e t r = absurd t
 line_fault_read text plain at next past kept (Some row) f e t r =
     fault_read text plain at next past kept row f e t.0 t.1 r
 
--- what a score is refused for is its first fault
+-- a score is refused for its first fault
 pub refused_by : (k : Or ScoreFault) (r : Refusal) (meant : Result (List ScoreStmt) ScoreFault)
     → or.Fault r ≡ or_by refusal.Score k → ((f : ScoreFault) → k ≡ or.Fault f → meant ≡ Err f) → IsRefusedFor r meant
 refused_by (or.Fault f) r meant e h =

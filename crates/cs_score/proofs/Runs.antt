@@ -1,10 +1,10 @@
--- The values of runs.
+-- The list of values that a run represents.
 use Rattle.std.proofs.Common.{◌≡◌, ℕ, ℤ, ◌≤◌, List, ◌++◌, length, drop, max, nat_le, Result, Ok, Err, IfOk, arith, ap}
 use Rattle.std.proofs.Common.{sym, ◌∙◌, refl, append_assoc}
 use Rattle.std.proofs.lemmas.{Bool.Decides.nat_tests, List.drop-append-le, List.drop_all, Slice.drop-append-drop}
 use Rattle.cs_base.proofs.Tests.{by_test}
 
--- those of a statement's own from a place on, and those that are seen below them
+-- the values from a place on: a statement's own values from there, followed by the values visible below them
 hidden : (n : ℕ) (own below : List ℤ)
     → drop n (own ++ drop (length own) below) ≡ drop n own ++ drop (max n (length own)) below
 hidden n own below = by_test (nat_le n (length own))

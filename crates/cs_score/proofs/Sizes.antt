@@ -1,4 +1,4 @@
--- Tables of one number have one size: that of the first of them.
+-- All tables with the same number have the same size, the size of the first of them.
 use Rattle.std.proofs.Common.{◌≡◌, ℕ, ℤ, zero, suc, ◌<◌, ◌==◌, not, nat_lt, Bool, true, false, List, [], ◌∷◌, ◌++◌}
 use Rattle.std.proofs.Common.{drop, length, slice_get, arith, ap, sym, ◌∙◌, refl, subst, Option, Some, None, Result, Ok}
 use Rattle.std.proofs.Common.{Err, if◌then◌else◌}
@@ -6,7 +6,7 @@ use Rattle.std.specs.{List.All, Option.option_or, Ordering.int_eq}
 use Rattle.std.proofs.lemmas.Bool.Decides.{Decides-int_eq, nat_tests}
 use Rattle.cs_base.specs.{Lines.Excerpt, declared.fault.ScoreFault.ScoreFault, declared.fault.ScoreKind.ScoreKind}
 use Rattle.cs_base.specs.declared.fault.ScoreKind.TheVariants.{BadStatement, MissingField, NotInProfile, NothingToCarry}
-use Rattle.cs_fields.specs.{declared.field.Field.Field, Fields.is_negative_time, Fields.raw_of, Fields.size_of}
+use Rattle.cs_score.specs.{declared.field.Field.Field, Fields.is_negative_time, Fields.raw_of, Fields.size_of}
 use Rattle.cs_gen.specs.{declared.check.GenFault.GenFault, Faults.table_fault}
 use Rattle.cs_score.specs.{declared.row.Row.Row, declared.statement.ScoreWhat.ScoreWhat}
 use Rattle.cs_score.specs.{declared.statement.ScoreStmt.ScoreStmt, Rows.rows_of, Sizes.HaveOneSize, Sizes.IsOneSize}
@@ -36,14 +36,14 @@ each_more : {X : Type 0} (P Q : X → Type 0) → ((x : X) → P x → Q x) → 
 each_more P Q weaker [] e = tt
 each_more P Q weaker (x ∷ xs) e = (weaker x e.0, each_more P Q weaker xs e.1)
 
--- ---- a table that is accepted has the first size of its number
+-- ---- an accepted table has the first size of its number
 
--- a table has the size that its number had first
+-- a table has the first size of its number
 abbrev IsFirst : (ℕ → Option ℤ) → ScoreWhat → Type 0
 IsFirst first (Table number at size gen args) = (z : ℤ) → first number ≡ Some z → size ≡ z
 IsFirst first _ = Unit {0}
 
--- and a statement that gives its size to its number
+-- a statement that is a table sets the size of its number
 abbrev IsOwn : (ℕ → Option ℤ) → ScoreWhat → Type 0
 IsOwn own (Table number at size gen args) = own number ≡ Some size
 IsOwn own _ = Unit {0}
@@ -136,9 +136,9 @@ tempo_is_none (f ∷ fs) w h =
     (not_missing (length (f ∷ fs) == 0) _ w h) in
     let e : Tempo a.0 ≡ w = cc in subst IsNoTable e tt
 
--- ---- the statements of a row
+-- ---- the statements of one row
 
--- one at most, and it is accepted
+-- at most one statement, which is accepted
 abbrev Accepted : (ℕ → Option ℤ) → (ℕ → Option ℤ) → List ScoreStmt → Type 0
 Accepted first own these = Each (λ (s : ScoreStmt). IsAccepted first own s.what) these × (length these < 2)
 
@@ -205,7 +205,7 @@ these_accepted above row these letter.Stray e =
 
 -- ---- the statements of all rows
 
--- where a number has a first size already, a later statement doesn't change it
+-- if a number has a first size already, a later statement doesn't change it
 or_first : (a b : Option ℤ) (z : ℤ) → a ≡ Some z → option_or a b ≡ Some z
 or_first None b z h = absurd (cc)
 or_first (Some x) b z h = h
@@ -227,7 +227,7 @@ first_back first own _ f = tt
 abbrev AreFirst : (ℕ → Option ℤ) → List ScoreStmt → Type 0
 AreFirst first = Each (λ (s : ScoreStmt). IsFirst first s.what)
 
--- some statements before others
+-- some statements followed by others
 before : (first own : ℕ → Option ℤ) (these more : List ScoreStmt)
     → Each (λ (s : ScoreStmt). IsAccepted first own s.what) these →
     AreFirst (λ n. option_or (first n) (own n)) more → HaveOneSize more → length these < 2

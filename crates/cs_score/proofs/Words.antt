@@ -1,9 +1,9 @@
--- The words of a line, one by one.
+-- Reading the words of a line one by one.
 use Rattle.std.proofs.Common.{◌≡◌, ℕ, suc, ◌+◌, ◌<◌, true, false, not, List, ◌∷◌, ◌++◌, length, drop, take, map, []}
 use Rattle.std.proofs.Common.{get_or, arith, ap, sym, ◌∙◌, refl, subst, append_assoc}
 use Rattle.std.specs.List.{prefix_len}
 use Rattle.std.proofs.lemmas.List.{drop_more, drop-drop}
-use Rattle.cs_fields.specs.{declared.field.Field.Field, Fields.field_of}
+use Rattle.cs_score.specs.{declared.field.Field.Field, Fields.field_of}
 use Rattle.cs_score.specs.Rows.{is_word_byte, words, with_first}
 use Rattle.cs_base.specs.Lines.{begins, is_blank}
 use Rattle.cs_base.proofs.Tests.{by_test}
@@ -25,7 +25,7 @@ len_blank b rest h = rw h refl
 pub len_word : (b : ℕ) (rest : List ℕ) → is_blank b ≡ false → word_len (b ∷ rest) ≡ suc (word_len rest)
 len_word b rest h = rw h (omega arith)
 
--- the word at the front of a text that begins with no blank, and the words after it
+-- the first word of a text that doesn't begin with a blank, followed by the words after it
 word_first : (b : ℕ) (rest : List ℕ) → is_blank b ≡ false
     → words (b ∷ rest) ≡ (b ∷ take (word_len rest) rest) ∷ words (drop (word_len rest) rest)
 word_first b [] h = rw h refl
@@ -42,7 +42,7 @@ one_word (b ∷ rest) l h =
     subst (λ n. words (b ∷ rest) ≡ take n (b ∷ rest) ∷ words (drop n (b ∷ rest))) (sym (len_word b rest h))
     (word_first b rest h)
 
--- ---- one turn of the reader
+-- ---- one step of the reader
 
 pub word_read : (line : List ℕ) (at len : ℕ) (fields fields' : List Field) (f : Field) → at < length line
     → is_blank (get_or line at 0) ≡ false → len ≡ word_len (drop at line) → f ≡ field_of (take len (drop at line))

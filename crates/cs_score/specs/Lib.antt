@@ -1,4 +1,5 @@
 pub mod Carry
+pub mod Fields
 pub mod Limits
 pub mod Notes
 pub mod Plain

@@ -1,4 +1,4 @@
--- A text without its comments. It falls into pieces, each a comment or one byte with which none begins.
+-- A text without its comments. It is cut into pieces; each is a comment or one byte outside comments.
 use Rattle.std.specs.Prelude.{◌≡◌, ℕ, zero, suc, Bool, false, ◌<◌, ◌++◌, List, [], ◌∷◌, drop, length, map, max, take}
 use Rattle.std.specs.Prelude.{if◌then◌else◌}
 use Rattle.cs_base.specs.{Comments.comment_len, Lines.space}
@@ -7,7 +7,7 @@ use Rattle.cs_base.specs.{Comments.comment_len, Lines.space}
 abbrev pub spaces : List ℕ → List ℕ
 spaces bytes = map (λ _. space) bytes
 
--- the first piece of a text in plain form, where the first `len` bytes are a comment
+-- the plain form of a text's first piece; `len` is the length of the comment that begins the text, or 0
 abbrev pub plain_piece : ℕ → List ℕ → List ℕ
 plain_piece zero text = take 1 text
 plain_piece (suc len) text = spaces (take (suc len) text)
@@ -18,31 +18,33 @@ plain_pieces zero text = []
 plain_pieces (suc n) text =
     plain_piece (comment_len text) text ++ plain_pieces n (drop (max 1 (comment_len text)) text)
 
--- a text with a space in place of each byte of a comment: it has no more pieces than bytes
+-- a text with a space instead of each byte of a comment; it has at most as many pieces as bytes
 abbrev pub plain_of : List ℕ → List ℕ
 plain_of text = plain_pieces (length text) text
 
--- a piece as it stands in a list of them
+-- a piece of a text: a comment, or one byte
 pub record CommentOrByte : Type 0 where
   pub is_comment : Bool
   pub bytes : List ℕ
 
--- the text that pieces make
+-- the text made of the pieces
 abbrev pub text_of : List CommentOrByte → List ℕ
 text_of [] = []
 text_of (p ∷ ps) = p.bytes ++ text_of ps
 
--- their plain form
+-- the plain form of the pieces
 abbrev pub plain_by : List CommentOrByte → List ℕ
 plain_by [] = []
 plain_by (p ∷ ps) = (if p.is_comment then spaces p.bytes else p.bytes) ++ plain_by ps
 
--- a piece before some text: it is the comment that begins there, or a byte with which none begins
+-- a piece fits before the rest of a text: it is the comment that begins there, or a byte that begins no
+-- comment
 pub record Fits (p : CommentOrByte) (rest : List ℕ) : Type 0 where
   pub some : 0 < length p.bytes
   pub comment : comment_len (p.bytes ++ rest) ≡ (if p.is_comment then length p.bytes else 0)
   pub byte : p.is_comment ≡ false → length p.bytes ≡ 1
 
+-- each piece fits before the pieces after it
 abbrev pub AllFit : List CommentOrByte → Type 0
 AllFit [] = Unit {0}
 AllFit (p ∷ ps) = Fits p (text_of ps) × AllFit ps

@@ -1,4 +1,5 @@
-// What an `i` statement takes from the one before: the code keeps the row of that one, filled.
+// The fields that an `i` statement carries from the one before. The code stores the previous statement with
+// its omitted fields filled in.
 ghost use Rattle.std.specs.Prelude.{◌≡◌, ◌<◌, ◌^◌, Some, Ok, IfOk};
 ghost use Rattle.std.proofs.Props.{props};
 ghost use Rattle.cs_score.specs.{Carry.is_same, Notes.note_of, Ranges.HasRange, Ranges.IsInstrument};
@@ -7,14 +8,15 @@ ghost use Rattle.cs_score.specs.inner.State.{IsKept, IsLast, NoteAnswers, comple
 ghost use Rattle.cs_score.specs.inner.State.{instr_read, note_read, note_with, p1_before};
 
 use crate::NoteValues;
+use crate::field::{Field, InstrumentNumber};
 use crate::last::{LastNote, NoteRead};
 use crate::note::{check_count, field_at, gap, more_values, p1, p2, timed, what};
 use crate::statement_fault::StatementFault;
 use cs_base::Items;
-use cs_fields::{Field, InstrumentNumber};
 use std::alloc::{AllocError, Global};
 
-/// Reads an `i` statement by its written fields, after the statements that gave `base` and `last`.
+/// Reads an `i` statement from its written fields. `base` is the base of the section, and `last` the `i`
+/// statement right before.
 pub fn read_note(
     alloc: Global,
     base: u64,
@@ -30,7 +32,7 @@ pub fn read_note(
     note_with(alloc, base, last, written, instr)
 }
 
-// The statement after its p1.
+// Reads the rest of the statement after its p1.
 fn note_with(
     alloc: Global,
     base: u64,
@@ -53,7 +55,7 @@ fn note_with(
     note_of(alloc, base, instr, p2, carried)
 }
 
-// The statement after its p2, and what the next one may take from it.
+// Reads the rest of the statement after its p2. Returns it with the fields that the next one may carry.
 fn note_of(
     alloc: Global,
     base: u64,
@@ -89,7 +91,7 @@ fn note_of(
     })
 }
 
-// A statement continues the one before where both have the same p1.
+// Whether a statement continues the one before: both have the same p1.
 fn is_same(instr: InstrumentNumber, last: Option<InstrumentNumber>) -> bool
     ensures { result ≡ is_same (Ok instr) (p1_before last) }
 {
@@ -99,11 +101,12 @@ fn is_same(instr: InstrumentNumber, last: Option<InstrumentNumber>) -> bool
     }
 }
 
-/// The statement's fields, with omitted ones filled from the previous `i`.
+/// The statement's fields, with the omitted ones filled in from the previous `i`.
 #[derive(Drop)]
 pub struct Carried {
     pub fields: Items<Field>,
-    /// Behind the first `written` all are fields of the statement before, whose values from p4 on are `before`.
+    /// The number of written fields. All later fields are carried from the previous statement, whose values
+    /// from p4 on are `before`.
     pub written: usize,
     pub before: NoteValues,
     ghost taken: { IsTakenFrom written fields before } by { Prim.hlevel props },

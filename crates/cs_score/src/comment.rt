@@ -6,12 +6,13 @@ ghost use Rattle.cs_score.specs.{Plain.plain_of, inner.Hidden.hidden_here};
 use cs_base::comment_len;
 use std::alloc::{AllocError, Global};
 
-/// The text with a space in place of each byte of a comment, so that each byte keeps its place.
+/// Returns the text with a space instead of each byte of a comment, so that all other bytes keep their
+/// places.
 pub fn plain(alloc: Global, text: &[u8]) -> Result<Vec<u8>, AllocError>
     ensures { IfOk result (λ plain. plain.items ≡ plain_of text.now) }
 {
     let mut plain = Vec::with_capacity(alloc, text.len())?;
-    // How many bytes from here on are of a comment that began before.
+    // The number of bytes from `at` on that belong to a comment which began earlier.
     let mut hidden = 0;
     for at in 0..text.len() {
         let here = hidden_here(hidden, &text[at..]);
@@ -21,7 +22,8 @@ pub fn plain(alloc: Global, text: &[u8]) -> Result<Vec<u8>, AllocError>
     Ok(plain)
 }
 
-// How many bytes from here on are of a comment, of one that began before or of one that begins here.
+// The number of bytes from here on that belong to a comment, whether it began earlier (`hidden`) or begins
+// here.
 fn hidden_here(hidden: usize, text: &[u8]) -> usize
     ensures { result ≡ hidden_here hidden text.now }
 {

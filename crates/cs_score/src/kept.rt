@@ -1,4 +1,5 @@
-// The statements of a score that are kept: all of them, until they pass a limit. Those after that aren't counted.
+// The statements of a score that are stored: all of them, until they exceed a limit. Later statements aren't
+// counted.
 ghost use Rattle.std.specs.Prelude.{◌≡◌, ◌++◌, ◌∷◌, [], ℕ, List, nat_lt, cond, All, IfOk, OnOk, Option, Some, None};
 ghost use Rattle.std.specs.{Prelude.Err, Prelude.if◌then◌else◌, Option.is_none, Option.option_or};
 ghost use Rattle.cs_base.specs.declared.limit.LimitHit.{LimitHit};
@@ -10,21 +11,21 @@ use crate::{ScoreStmt, ScoreStmts, ScoreWhat};
 use cs_base::{Limit, LimitHit, MOST_EVENTS, MOST_TABLES};
 use std::alloc::{AllocError, Global};
 
-/// The different table numbers so far, and the limit hit at the table that gives one too many.
+/// The different table numbers so far, and the limit hit at the table that made them too many.
 #[derive(Drop)]
 pub struct TableNumbers {
     pub seen: Vec<u32>,
     pub hit: Option<LimitHit>,
 }
 
-/// How many `i` and `f` statements there are so far, and the limit hit at the one that is too many.
+/// The number of `i` and `f` statements so far, and the limit hit at the statement that made them too many.
 #[derive(Drop)]
 pub struct EventCount {
     pub count: usize,
     pub hit: Option<LimitHit>,
 }
 
-/// What is kept of the statements so far: all of them, until they pass a limit.
+/// The statements so far: all of them, until they exceed a limit.
 #[derive(Drop)]
 pub struct KeptStatements {
     pub statements: ScoreStmts,
@@ -54,7 +55,7 @@ impl TableNumbers {
     }
 }
 
-// Takes in the number of a table statement.
+// Adds the number of a table statement to `seen`.
 fn see_table(seen: &mut Vec<u32>, what: &ScoreWhat) -> Result<(), AllocError>
     ensures { (numbers : List ℕ) → IsSeen seen.old.items numbers
         → OnOk result (IsSeen seen.new.items (numbers ++ own_number what.now)) }
@@ -76,7 +77,7 @@ fn see_number(seen: &mut Vec<u32>, number: u32) -> Result<(), AllocError>
     Ok(())
 }
 
-// The limit hit at a statement with which `count` is above `most`.
+// The limit hit at a statement, if it brings `count` above `most`.
 fn hit(count: usize, most: usize, limit: Limit, line: u32) -> Option<LimitHit>
     ensures { result ≡ (if nat_lt most count then Some (record { limit = limit; line = line }) else None) }
 {
@@ -117,6 +118,7 @@ fn counted(what: &ScoreWhat) -> usize
 }
 
 impl KeptStatements {
+    /// No statements so far.
     pub fn new(alloc: Global) -> KeptStatements
         ensures keeps { Holds [] result }
         ensures none { result.statements ≡ [] }
@@ -128,7 +130,7 @@ impl KeptStatements {
         }
     }
 
-    /// Takes in a statement, which is kept where no limit was passed.
+    /// Adds a statement. It is stored unless a limit was exceeded.
     pub fn take(&mut self, statement: ScoreStmt) -> Result<(), AllocError>
         ensures keeps { (all : List ScoreStmt) → Holds all self.old
             → OnOk result (Holds (all ++ statement ∷ []) self.new) }
@@ -143,14 +145,14 @@ impl KeptStatements {
         Ok(())
     }
 
-    // The first limit that was passed.
+    // The first limit that was exceeded: the one on table numbers, otherwise the one on statements.
     fn hit(&self) -> Option<LimitHit>
         ensures { result ≡ option_or self.now.tables.hit self.now.events.hit }
     {
         self.tables.hit.or(self.events.hit)
     }
 
-    /// The statements, or the first limit that they pass.
+    /// Returns the statements, or the first limit that they exceed.
     pub fn answer(self) -> Result<ScoreStmts, LimitHit>
         ensures statements { (all : List ScoreStmt) → Holds all self
             → IfOk result (λ statements. (statements ≡ all) × (limit_of_score all ≡ None)) }

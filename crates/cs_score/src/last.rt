@@ -1,20 +1,20 @@
-// What the next `i` statement may take from the one right before it.
+// The fields that the next `i` statement may carry from the statement right before it.
 ghost use Rattle.std.specs.Prelude.{◌≡◌, ◌<◌, ◌^◌, None};
 ghost use Rattle.cs_score.specs.{Ranges.IsInstrument, Ranges.number_or_one, Ranges.beats_end, inner.Values.AreValues};
 
+use crate::field::{Field, InstrumentNumber};
 use crate::{NoteValues, ScoreWhat};
 use cs_base::Items;
-use cs_fields::{Field, InstrumentNumber};
 use std::alloc::Global;
 
 /// The `i` statement right before, with all its fields.
 #[derive(Drop)]
 pub struct LastNote {
-    /// p1; `None` where no `i` statement stands right before.
+    /// p1, or `None` if the statement right before isn't an `i`.
     pub instr: Option<InstrumentNumber>,
-    /// p2 before the base was added, in millionths.
+    /// p2 before the base was added, in millionths of a beat.
     pub p2: u64,
-    /// How much later the next note by `+` starts, in millionths.
+    /// The time from the start of this note to the start of a next note with `+`, in millionths of a beat.
     pub gap: u64,
     pub fields: Items<Field>,
     /// The values of the fields from p4 on.
@@ -26,7 +26,7 @@ pub struct LastNote {
 }
 
 impl LastNote {
-    /// No `i` statement stands right before.
+    /// The state if the statement right before isn't an `i`.
     pub fn none(alloc: Global) -> LastNote
         ensures { result.instr ≡ None }
     {
@@ -40,7 +40,7 @@ impl LastNote {
     }
 }
 
-/// An `i` statement, and what the next one may take from it.
+/// An `i` statement, and the fields that the next one may carry.
 #[derive(Drop)]
 pub struct NoteRead {
     pub what: ScoreWhat,

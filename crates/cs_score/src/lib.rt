@@ -1,20 +1,24 @@
 //! Reads a score's text into statements, or refuses it at its first fault.
 //!
-//! Its one contract: `read_score` returns what `score_of` (specs/Statements.antt) says of the whole text: the line and
-//! kind of its first fault, else the first limit that its statements pass (specs/Limits.antt), else the statements in
-//! order, each value in its range (specs/Ranges.antt). There each field of an `i` statement looks back through the
-//! statements before it for what it carries (specs/Carry.antt), and so do the base and the first size of a table; the
-//! code keeps the last row, filled, and its values, and never looks back. How it does so (`comment`, `line`, `last`,
-//! `past`, `kept`, and specs/inner/) may be changed without anyone above noticing.
+//! Its one contract: `read_score` returns the result of `score_of` (specs/Statements.antt) for the complete
+//! text. That is the line and kind of the first fault, otherwise the first limit that the statements exceed
+//! (specs/Limits.antt), otherwise the statements in order, each value in its range (specs/Ranges.antt). In
+//! the definitions each field of an `i` statement looks back through the previous statements for the value
+//! that it carries (specs/Carry.antt); the base and the first size of a table are found in the same way. The
+//! code stores the last statement with its omitted fields filled in, and never looks back. Its way of doing
+//! so (`comment`, `line`, `last`, `past`, `kept`, and specs/inner/) may be changed without anyone above
+//! noticing.
 //!
-//! To be read in this order: `statement` and `values` (what comes out), `read` (the one pass), `line` and `comment`
-//! (the text), `row` (what a line writes, in fields of cs_fields), `note`, `table` and `tempo` (what statements ask
-//! for), `carry` and `last` (what an `i` takes from the one before), `past` and `statements` (what is kept from
-//! statement to statement), `kept` (the statements up to a limit), `laws`, `worked` (scores read by the definitions).
+//! In reading order: `statement` and `values` (the result), `read` (the one pass), `line` and `comment` (the
+//! text), `row` (the letter and fields of a line), `field` (the meaning of one field), `note`, `table` and
+//! `tempo` (the rules of each statement), `carry` and `last` (the fields that an `i` carries), `past` and
+//! `statements` (the state between statements), `kept` (the statements up to a limit), `laws`, `worked`
+//! (scores read by the definitions).
 #![tactic(auto)]
 
 mod carry;
 mod comment;
+mod field;
 mod kept;
 mod last;
 mod laws;
@@ -31,6 +35,7 @@ mod tempo;
 mod values;
 mod worked;
 
+pub use field::{Field, InstrumentNumber, Signed};
 pub use laws::{comments_are_spaces, tables_keep_one_size};
 pub use read::read_score;
 pub use statement::{ScoreStmt, ScoreStmts, ScoreWhat, TempoPoint, TempoPoints};

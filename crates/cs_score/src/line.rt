@@ -1,4 +1,4 @@
-// The lines of a text, one by one.
+// Reads the lines of a text one by one.
 ghost use Rattle.std.specs.Prelude.{◌≡◌, ◌<◌, ◌≤◌, ◌+◌, ◌-◌, ◌++◌, take, length, IfOk};
 ghost use Rattle.std.specs.Option.{option_to_list};
 ghost use Rattle.cs_base.specs.{Limits.most_csd_bytes, Limits.most_score_bytes, Lines.line_after};
@@ -8,7 +8,7 @@ use crate::row::{Row, StatementLetter, fields_of};
 use cs_base::{Excerpt, blanks_len, feeds, line_len, next_len};
 use std::alloc::{AllocError, Global};
 
-/// A line that was read: its statement, if it has one, and the place and the line of what follows.
+/// A line that was read: its statement, if it has one, and the place and line number of the text after it.
 #[derive(Drop)]
 pub struct LineRead {
     pub row: Option<Row>,
@@ -16,7 +16,8 @@ pub struct LineRead {
     pub line: u32,
 }
 
-/// Reads the line of a text at a place; `plain` is the text without its comments, and `line` the line there.
+/// Reads the line that begins at place `at`. `plain` is the text without its comments, and `line` the line
+/// number there.
 pub fn read_line(
     alloc: Global,
     text: &Excerpt,
@@ -48,7 +49,7 @@ pub fn read_line(
     })
 }
 
-// The line of a place, from that of an earlier one.
+// The line number of place `to`, counted on from an earlier place.
 fn line_on(text: &Excerpt, line: u32, from: usize, to: usize) -> u32
     requires first { text.now.first_line ≤ most_csd_bytes + 1 }
     requires small { length text.now.bytes ≤ most_score_bytes }
@@ -60,7 +61,7 @@ fn line_on(text: &Excerpt, line: u32, from: usize, to: usize) -> u32
     line + feeds(&text.bytes()[from..to])
 }
 
-// A statement, where a line has one after its blanks: its letter, and its fields.
+// The statement of a line, if it has one after its blanks: its letter and its fields.
 fn row_at(alloc: Global, line: u32, text: &[u8]) -> Result<Option<Row>, AllocError>
     ensures { IfOk result (λ row. option_to_list row ≡ row_at line text.now) }
 {

@@ -1,4 +1,4 @@
-// An `i` statement: what it writes, what it takes from the one before, and what it asks for.
+// An `i` statement: its written and carried fields, and the note that they describe.
 ghost use Rattle.std.specs.Prelude.{◌≡◌, ◌<◌, ◌≤◌, ◌+◌, ◌-◌, ◌^◌, Some, Ok, Err, IfOk, OnOk, slice_get, drop};
 ghost use Rattle.std.specs.Prelude.{length};
 ghost use Rattle.cs_base.specs.{Limits.greatest_field, declared.fault.ScoreKind.TheVariants.NothingToCarry};
@@ -9,16 +9,16 @@ ghost use Rattle.cs_score.specs.Notes.{as_time, moved, p2_by, gap_by, p3_by, tim
 ghost use Rattle.cs_score.specs.inner.State.{Answers, Ends, p1_before};
 ghost use Rattle.cs_score.specs.inner.Values.{AreValues, IsTakenFrom};
 
+use crate::field::{Field, InstrumentNumber, Signed};
 use crate::statement_fault::StatementFault;
 use crate::{NoteValues, ScoreWhat};
 use cs_base::{Decimal, GREATEST_FIELD, GREATEST_INSTRUMENT, Items, Nums, ScoreKind};
-use cs_fields::{Field, InstrumentNumber, Signed};
 use std::alloc::Global;
 
 /// Exclusive upper bound of a beat, in millionths: 10,000,000 beats.
 pub const BEATS_END: u64 = 10_000_000_000_000;
 
-// p1, which an `i` statement may leave to the one right before.
+/// p1. If it is omitted, it is carried from the `i` statement right before.
 pub fn p1(
     written: Option<Field>,
     before: Option<InstrumentNumber>,
@@ -33,7 +33,7 @@ pub fn p1(
     }
 }
 
-// An instrument number, with a minus for a stop.
+// An instrument number. A minus sign makes the statement a stop.
 fn instrument(n: Signed) -> Result<InstrumentNumber, ScoreKind>
     ensures value { result ≡ as_instrument n }
     ensures range { IfOk result (λ instr. IsInstrument instr.number) }
@@ -51,7 +51,7 @@ fn instrument(n: Signed) -> Result<InstrumentNumber, ScoreKind>
     }
 }
 
-/// A time that isn't below 0, in millionths.
+/// A time in millionths of a beat, at least 0.
 pub fn time(n: Signed) -> Result<u64, ScoreKind>
     ensures { result ≡ as_time n }
 {
@@ -62,7 +62,7 @@ pub fn time(n: Signed) -> Result<u64, ScoreKind>
     }
 }
 
-// p2 before the base is added, where the note before starts at `before` and the next one by `+` starts `gap` later.
+/// p2 before the base is added. The previous note starts at `before`, and `+` means `gap` later.
 pub fn p2(continuing: bool, before: u64, gap: u64, written: Option<Field>) -> Result<u64, ScoreKind>
     requires before { before < beats_end }
     requires gap { gap < 2 ^ 62 }
@@ -88,7 +88,7 @@ fn moved(continuing: bool, before: u64, distance: u64) -> Result<u64, ScoreKind>
     }
 }
 
-// How much later than this one the next note by `+` starts.
+/// The time from the start of this note to the start of a next note with `+`.
 pub fn gap(instr: InstrumentNumber, p3: Option<Field>) -> u64
     ensures value { result ≡ gap_by (Ok instr) p3 }
     ensures small { result < 2 ^ 62 }
@@ -99,7 +99,7 @@ pub fn gap(instr: InstrumentNumber, p3: Option<Field>) -> u64
     }
 }
 
-// p3 of a note that starts at `at`; left off, it is 0.
+// p3 of a note that starts at `at`. It is 0 if it is omitted.
 fn p3(instr: InstrumentNumber, at: u64, written: Option<Field>) -> Result<Signed, ScoreKind>
     requires { at < beats_end }
     ensures value { result ≡ p3_by instr at written }
@@ -115,7 +115,7 @@ fn p3(instr: InstrumentNumber, at: u64, written: Option<Field>) -> Result<Signed
         }),
         Some(field) => {
             let n = field.number(ScoreKind::NothingToCarry)?;
-            // A note that lasts ends below the greatest beat; p3 of a stop is only a number.
+            // A note with a length ends before the last allowed beat. p3 of a stop is only a number.
             if instr.stop || n.minus || at + n.millionths() < BEATS_END {
                 Ok(n)
             } else {
@@ -125,14 +125,14 @@ fn p3(instr: InstrumentNumber, at: u64, written: Option<Field>) -> Result<Signed
     }
 }
 
-/// When a note starts, in millionths, and its p3.
+/// The start of a note in millionths of a beat, and its p3.
 #[derive(Clone, Copy)]
 pub struct Times {
     pub at: u64,
     pub p3: Signed,
 }
 
-/// The start, with the base, and p3.
+/// Returns the start, with the base added, and p3.
 pub fn timed(
     base: u64,
     instr: InstrumentNumber,
@@ -153,7 +153,7 @@ pub fn timed(
     Ok(Times { at, p3 })
 }
 
-/// The values of fields that are all numbers. A `.` that nothing fills is refused as `dot`.
+/// The values of fields that must all be numbers. Fails with `dot` for a `.` that has nothing to carry.
 pub fn values(alloc: Global, dot: ScoreKind, fields: &[Field]) -> Result<Nums, StatementFault>
     ensures value { Answers result (values_of dot fields.now) }
     ensures len { IfOk result (λ values. length values ≡ length fields.now) }
@@ -166,7 +166,8 @@ pub fn values(alloc: Global, dot: ScoreKind, fields: &[Field]) -> Result<Nums, S
     Ok(values)
 }
 
-/// The values of the fields from p4 on, where behind the first `written` fields all are those of the statement before.
+/// The values of the fields from p4 on. All fields after the first `written` ones are carried from the
+/// previous statement.
 pub fn more_values(
     alloc: Global,
     fields: &[Field],
@@ -183,7 +184,7 @@ pub fn more_values(
     Ok(NoteValues::over(alloc, own, before)?)
 }
 
-/// Checks the count of fields, which is looked at last.
+/// Checks the number of fields. This check comes last.
 pub fn check_count(instr: InstrumentNumber, count: usize) -> Result<(), ScoreKind>
     ensures value { (what : ScoreWhat) → counted instr count what ≡ and_then result (λ _. Ok what) }
     ensures few { OnOk result (count ≤ greatest_field) }
@@ -198,7 +199,7 @@ pub fn check_count(instr: InstrumentNumber, count: usize) -> Result<(), ScoreKin
     Ok(())
 }
 
-/// A stop by its p1, a held note by its p3, or a note.
+/// The statement: a stop if p1 is negative, a held note if p3 is negative, a note otherwise.
 pub fn what(instr: InstrumentNumber, times: Times, more: NoteValues) -> ScoreWhat
     requires instr { IsInstrument instr.number }
     requires at { times.at < beats_end }
@@ -228,7 +229,7 @@ pub fn what(instr: InstrumentNumber, times: Times, more: NoteValues) -> ScoreWha
     }
 }
 
-/// The field at place `k`, counted from 0, if there is one.
+/// The field at place `k`, counted from 0, or `None` if there is no such field.
 pub fn field_at(fields: &Items<Field>, k: usize) -> Option<Field>
     ensures { result ≡ slice_get fields.now k }
 {

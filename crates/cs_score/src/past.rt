@@ -1,16 +1,16 @@
-// What later statements take from those that were read.
+// The state that later statements depend on.
 ghost use Rattle.cs_score.specs.Ranges.{beats_end};
 ghost use Rattle.std.specs.Prelude.{◌<◌};
 
 use crate::last::LastNote;
 use crate::table::Sizes;
 
-/// What later statements take from those that were read.
+/// The state after some statements, on which later statements depend.
 #[derive(Drop)]
 pub struct Past {
-    /// What is added to p2, in millionths of a beat.
+    /// The base, which is added to p2, in millionths of a beat.
     pub base: u64,
-    /// The size that the first `f` of each number gave.
+    /// The size of the first `f` of each table number.
     pub sizes: Sizes,
     /// The `i` statement right before.
     pub last: LastNote,

@@ -1,4 +1,4 @@
-// The whole text, line after line.
+// Reads the complete text, line after line.
 ghost use Rattle.std.specs.Prelude.{◌≡◌, ◌≤◌, [], length, Some, None, Result, Ok, Err, IfOk, OnOk, All};
 ghost use Rattle.cs_base.specs.{Limits.most_score_bytes, declared.fault.ScoreFault.ScoreFault};
 ghost use Rattle.cs_base.specs.declared.fault.Or.TheVariants as or;
@@ -18,15 +18,15 @@ use crate::{ScoreStmt, ScoreStmts};
 use cs_base::{Excerpt, Or, Refusal, ScoreFault};
 use std::alloc::Global;
 
-/// Reads a score of at most 4,194,304 bytes into its statements, or finds its first fault, else the first limit that
-/// its statements pass: that on table numbers, else that on statements. What is carried and the base of a section are
-/// resolved.
+/// Reads a score of at most 4,194,304 bytes into its statements. Fails with the first fault; otherwise with
+/// the first limit that the statements exceed, first the limit on table numbers, then the limit on
+/// statements. Carried fields are filled in, and the base of the section is added.
 pub fn read_score(alloc: Global, text: &Excerpt) -> Result<ScoreStmts, Or<Refusal>>
     requires { length text.now.bytes ≤ most_score_bytes }
     ensures statements { IfOk result (λ statements. score_of text.now ≡ Ok statements) }
     ensures within { IfOk result (λ statements. limit_of_score statements ≡ None) }
     ensures ranges { IfOk result (λ statements. All IsInRange statements) }
-    // The first fault of the whole text, also where a limit is passed before it.
+    // The first fault of the complete text, even if a limit is exceeded before it.
     ensures refused { (r : Refusal) → result ≡ Err (or.Fault r) → IsRefusedFor r (score_of text.now) }
 {
     let kept = read_all(alloc, text)?;
@@ -36,7 +36,7 @@ pub fn read_score(alloc: Global, text: &Excerpt) -> Result<ScoreStmts, Or<Refusa
     }
 }
 
-// Reads the whole text; of its statements those are kept that pass no limit.
+// Reads the complete text. Statements are stored until they exceed a limit.
 fn read_all(alloc: Global, text: &Excerpt) -> Result<KeptStatements, Or<ScoreFault>>
     requires { length text.now.bytes ≤ most_score_bytes }
     ensures whole { IfOk result (IsWhole text.now) }
@@ -50,7 +50,7 @@ fn read_all(alloc: Global, text: &Excerpt) -> Result<KeptStatements, Or<ScoreFau
     Ok(kept)
 }
 
-// Reads all lines, where none was read before; `plain` is the text without its comments.
+// Reads all lines. `plain` is the text without its comments.
 fn read_lines(
     alloc: Global,
     text: &Excerpt,
@@ -81,7 +81,7 @@ fn read_lines(
     Ok(())
 }
 
-// Adds the statement of a line that has one. Returns whether it was an `e`.
+// Adds the statement of a line, if it has one. Returns whether it was an `e`.
 fn read_row(
     alloc: Global,
     past: &mut Past,

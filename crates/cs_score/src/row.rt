@@ -1,14 +1,14 @@
-// The line of a statement: its letter and its fields.
+// The statement of a line: its letter and its fields.
 ghost use Rattle.std.specs.Prelude.{◌≡◌, ◌<◌, ◌≤◌, length, map, IfOk};
 ghost use Rattle.std.specs.List.{prefix_len};
-ghost use Rattle.cs_fields.specs.Fields.{field_of};
+ghost use Rattle.cs_score.specs.Fields.{field_of};
 ghost use Rattle.cs_score.specs.Rows.{letter_of, is_word_byte, words};
 
+use crate::field::Field;
 use cs_base::{Items, is_blank};
-use cs_fields::Field;
 use std::alloc::{AllocError, Global};
 
-/// What the first byte of a statement says.
+/// The kind of a statement, from its first byte.
 #[derive(Clone, Copy)]
 pub enum StatementLetter {
     /// `i`
@@ -23,13 +23,14 @@ pub enum StatementLetter {
     Section,
     /// `e`
     End,
-    /// Another letter.
+    /// A letter that no statement of the profile has.
     Other,
-    /// No letter.
+    /// A byte that isn't a letter.
     Stray,
 }
 
 impl StatementLetter {
+    /// The kind of a statement that begins with this byte.
     pub fn of(byte: u8) -> StatementLetter
         ensures { result ≡ letter_of byte }
     {
@@ -46,7 +47,7 @@ impl StatementLetter {
     }
 }
 
-/// A statement as a line writes it. Lines count from 1.
+/// A statement as it is written on a line. Lines count from 1.
 #[derive(Drop)]
 pub struct Row {
     pub line: u32,
@@ -54,7 +55,7 @@ pub struct Row {
     pub fields: Items<Field>,
 }
 
-/// The fields of a line, which blanks part.
+/// The fields of a line, which are separated by blanks.
 pub fn fields_of(alloc: Global, line: &[u8]) -> Result<Items<Field>, AllocError>
     ensures { IfOk result (λ fields. fields ≡ map field_of (words line.now)) }
 {

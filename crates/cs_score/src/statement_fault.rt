@@ -1,11 +1,12 @@
-// Why a statement isn't read, before its line is known.
+// Why a statement can't be read, before its line is known.
 ghost use Rattle.std.specs.Prelude.{◌≡◌};
 ghost use Rattle.cs_score.specs.declared.statement_fault.StatementFault.TheVariants as fault;
 
 use cs_base::ScoreKind;
 use std::alloc::AllocError;
 
-/// Why a statement isn't read: the rule that it breaks, or out of memory. Its line is known where the text is read.
+/// Why a statement can't be read: the rule that it breaks, or out of memory. The caller that reads the text
+/// adds the line.
 #[derive(Clone, Copy)]
 pub enum StatementFault {
     Kind(ScoreKind),

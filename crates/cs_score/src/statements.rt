@@ -1,4 +1,4 @@
-// Each statement after those that were read before it.
+// Reads each statement in the state that the statements before it have left.
 ghost use Rattle.std.specs.Prelude.{ℕ, ◌≡◌, Some, None, Ok, OnOk, IfOk, nat_eq};
 ghost use Rattle.std.specs.{HashMap.get, Option.option_or};
 ghost use Rattle.cs_score.specs.declared.row.StatementLetter.TheVariants as letter;
@@ -19,7 +19,7 @@ use std::collections::HashMap;
 use std::mem::replace;
 
 impl Past {
-    /// No statement was read.
+    /// The state before the first statement.
     pub fn new(alloc: Global) -> Past
         ensures base { result.base ≡ 0 }
         ensures sizes { (n : ℕ) → get nat_eq result.sizes n ≡ None }
@@ -32,7 +32,8 @@ impl Past {
         }
     }
 
-    /// What a statement asks for after those that were read: one thing, or nothing.
+    /// Reads a statement in this state, and updates the state. Returns `None` for a statement that only
+    /// changes the state.
     pub fn read(&mut self, alloc: Global, row: Row) -> Result<Option<ScoreWhat>, StatementFault>
         ensures value { AskedAnswers result (asked_after self.old row row.letter) }
         ensures follows { OnOk result (Follows self.old row self.new) }
@@ -93,7 +94,7 @@ impl Past {
     }
 }
 
-// Keeps the size of a table whose number had none before.
+// Records the size of a table unless its number already has one.
 fn keep_size(sizes: &mut Sizes, what: &ScoreWhat) -> Result<(), AllocError>
     ensures { OnOk result ((n : ℕ) → get nat_eq sizes.new n
         ≡ option_or (get nat_eq sizes.old n) (size_for n (Ok what.now))) }

@@ -1,4 +1,4 @@
-// An `f` statement, and the base that a `b` gives.
+// An `f` statement, and the base that a `b` statement sets.
 ghost use Rattle.std.specs.Prelude.{◌≡◌, ◌<◌, Some, None, Ok, IfOk, nat_eq};
 ghost use Rattle.std.specs.HashMap.{get};
 ghost use Rattle.cs_base.specs.declared.fault.ScoreKind.TheVariants.{BadNumber};
@@ -8,18 +8,18 @@ ghost use Rattle.cs_score.specs.Statements.{table_by, written_table, is_other_si
 ghost use Rattle.cs_score.specs.inner.State.{Answers, HasWrittenRange};
 
 use crate::ScoreWhat;
+use crate::field::{Field, Signed};
 use crate::note::{BEATS_END, rest, time, values};
 use crate::statement_fault::StatementFault;
 use cs_base::{GREATEST_TABLE, ScoreKind};
-use cs_fields::{Field, Signed};
 use cs_gen::{GenFault, check_table};
 use std::alloc::Global;
 use std::collections::HashMap;
 
-/// The size that the first `f` of each number gave.
+/// The size of the first `f` of each table number.
 pub type Sizes = HashMap<u32, i64>;
 
-// A time of `f` or `b`, below the greatest beat.
+// A time of `f` or `b`, in millionths of a beat, below 10,000,000 beats.
 fn beats(field: Field) -> Result<u64, ScoreKind>
     ensures value { result ≡ time_of field }
     ensures below { IfOk result (λ at. at < beats_end) }
@@ -32,7 +32,7 @@ fn beats(field: Field) -> Result<u64, ScoreKind>
     }
 }
 
-// A missing field reads as 0; the count check afterwards reports it.
+// The time in field `k`. A missing field reads as 0; the later check of the number of fields reports it.
 fn time_at(fields: &[Field], k: usize) -> Result<u64, ScoreKind>
     ensures value { result ≡ time_at fields.now k }
     ensures below { IfOk result (λ at. at < beats_end) }
@@ -43,7 +43,7 @@ fn time_at(fields: &[Field], k: usize) -> Result<u64, ScoreKind>
     }
 }
 
-// A size or a GEN.
+// The integer in field `k`: a size or a GEN.
 fn whole_at(fields: &[Field], k: usize) -> Result<i64, ScoreKind>
     ensures { result ≡ whole_at fields.now k }
 {
@@ -85,7 +85,8 @@ fn table_number(n: Signed) -> Result<u32, ScoreKind>
     }
 }
 
-/// An `f` by its fields alone: a table, or the extension of a section by `f 0 time`.
+/// Reads an `f` from its fields, without the statements before it: a table, or an extension of the section by
+/// `f 0 time`.
 pub fn written_table(alloc: Global, fields: &[Field]) -> Result<ScoreWhat, StatementFault>
     ensures value { Answers result (written_table fields.now) }
     ensures range { IfOk result HasWrittenRange }
@@ -94,7 +95,7 @@ pub fn written_table(alloc: Global, fields: &[Field]) -> Result<ScoreWhat, State
     if number != 0 {
         return table(alloc, number, fields);
     }
-    // The further fields of `f 0 time` aren't looked at.
+    // Further fields of `f 0 time` aren't checked.
     let at = time_at(fields, 1)?;
     if fields.len() < 2 {
         return Err(ScoreKind::MissingField.into());
@@ -102,7 +103,7 @@ pub fn written_table(alloc: Global, fields: &[Field]) -> Result<ScoreWhat, State
     Ok(ScoreWhat::Extend { at })
 }
 
-// The fields of a table in order, then their count.
+// Reads the fields of a table in order, then checks their number.
 fn table(alloc: Global, number: u32, fields: &[Field]) -> Result<ScoreWhat, StatementFault>
     requires { IsTableNumber number }
     ensures value { Answers result (table_by number fields.now) }
@@ -124,7 +125,7 @@ fn table(alloc: Global, number: u32, fields: &[Field]) -> Result<ScoreWhat, Stat
     })
 }
 
-/// Why a table is refused where numbers have these first sizes.
+/// Why a table is refused, given the sizes of the first table of each number. `None` if it is accepted.
 pub fn refusal(sizes: &Sizes, what: &ScoreWhat) -> Option<ScoreKind>
     ensures { result ≡ refusal_of (get nat_eq sizes.now) what.now }
 {
@@ -143,7 +144,7 @@ pub fn refusal(sizes: &Sizes, what: &ScoreWhat) -> Option<ScoreKind>
     }
 }
 
-/// The size that the first `f` of a number gave.
+/// The size of the first `f` of a table number, or `None` if there was none.
 pub fn first_size(sizes: &Sizes, number: u32) -> Option<i64>
     ensures { result ≡ get nat_eq sizes.now number }
 {
@@ -159,7 +160,7 @@ fn is_other_size(first: Option<i64>, size: i64) -> bool
     }
 }
 
-// The rules of a table in their order: its size, the size that its number had first, its GEN.
+// The rules of a table in their order: its size, the first size of its number, its GEN.
 fn table_refusal(fault: Option<GenFault>, resized: bool) -> Option<ScoreKind>
     ensures { result ≡ table_refusal fault resized }
 {
@@ -171,7 +172,7 @@ fn table_refusal(fault: Option<GenFault>, resized: bool) -> Option<ScoreKind>
     }
 }
 
-/// The base that a `b` gives; its further fields are numbers, and no more is asked of them.
+/// The base that a `b` sets, in millionths of a beat. Its further fields must be numbers and have no effect.
 pub fn base(alloc: Global, fields: &[Field]) -> Result<u64, StatementFault>
     ensures value { Answers result (base_by fields.now) }
     ensures below { IfOk result (λ base. base < beats_end) }

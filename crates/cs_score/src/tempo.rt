@@ -1,21 +1,21 @@
-// A `t` statement: pairs of beat and tempo.
+// A `t` statement: pairs of a beat and a tempo.
 ghost use Rattle.std.specs.Prelude.{◌≡◌, ◌<◌, None, IfOk, length};
 ghost use Rattle.cs_score.specs.{Ranges.AreTempoPoints, Ranges.HasRange, inner.State.Answers};
 ghost use Rattle.cs_score.specs.Statements.{follows, as_beat, as_tempo, points_of, tempo_of};
 
+use crate::field::{Field, Signed};
 use crate::note::BEATS_END;
 use crate::statement_fault::StatementFault;
 use crate::{ScoreWhat, TempoPoint, TempoPoints};
 use cs_base::ScoreKind;
-use cs_fields::{Field, Signed};
 use std::alloc::Global;
 
-/// One beat a minute, and 60,000, in millionths.
+// One beat per minute and 60,000 beats per minute, in millionths.
 const SLOWEST: u64 = 1_000_000;
 
 const FASTEST: u64 = 60_000_000_000;
 
-/// The tempo that a `t` gives.
+/// Reads the tempo of a `t` statement.
 pub fn tempo(alloc: Global, fields: &[Field]) -> Result<ScoreWhat, StatementFault>
     ensures value { Answers result (tempo_of fields.now) }
     ensures range { IfOk result HasRange }
@@ -48,7 +48,7 @@ fn points(alloc: Global, fields: &[Field]) -> Result<TempoPoints, StatementFault
     Ok(points)
 }
 
-// A beat of a tempo, after the one before.
+// A beat of a tempo. `last` is the beat before it.
 fn beat(last: Option<u64>, n: Signed) -> Result<u64, ScoreKind>
     ensures { result ≡ as_beat last n }
 {
@@ -66,7 +66,7 @@ fn beat(last: Option<u64>, n: Signed) -> Result<u64, ScoreKind>
     }
 }
 
-// The first beat is 0, and none is before the one before it.
+// Whether a beat may come after `last`: the first beat is 0, and beats never fall.
 fn follows(last: Option<u64>, beat: u64) -> bool
     ensures { result ≡ follows last beat }
 {

@@ -1,4 +1,4 @@
-// The values of a note's fields from p4 on: those that statements carry stand in memory once.
+// The values of a note's fields from p4 on. Values that several statements carry are stored once.
 ghost use Rattle.std.specs.Prelude.{◌≡◌, [], ◌++◌, drop, length, IfOk};
 ghost use Rattle.cs_score.specs.inner.Runs.{run_items};
 ghost use Rattle.std.specs.Rc.{rc_value};
@@ -8,14 +8,15 @@ use std::alloc::{AllocError, Global};
 use std::marker::Model;
 use std::rc::Rc;
 
-/// The values of a note's fields from p4 on. Those that it carries are shared with the statement before. Contracts see
-/// their list, and nothing else.
+/// The values of a note's fields from p4 on. Carried values are shared with the previous statement. Contracts
+/// see only the list of values.
 #[derive(Drop)]
 pub struct NoteValues {
     run: Option<Rc<Run>>,
 }
 
-/// Values that a statement gives itself, in place of the first ones of the run below, if there is one.
+// The values that a statement writes itself. They replace the first values of the run below, if there is
+// one.
 #[derive(Drop)]
 enum Run {
     Last(Nums),
@@ -39,7 +40,7 @@ impl NoteValues {
         NoteValues { run: None }
     }
 
-    /// Values of a statement's own, in place of the first ones of the statement before.
+    /// The values `own` of a statement, which replace the first values of the previous statement.
     pub fn over(alloc: Global, own: Nums, before: &NoteValues) -> Result<NoteValues, AllocError>
         ensures { IfOk result (λ values. values ≡ own ++ drop (length own) before.now) }
     {
@@ -55,7 +56,7 @@ impl NoteValues {
         Ok(NoteValues { run: Some(run) })
     }
 
-    // The same behind the first `count`; those may be others.
+    // Values that are the same from place `count` on; the first `count` may differ.
     fn behind(&self, count: usize) -> Result<NoteValues, AllocError>
         ensures { IfOk result (λ values. drop count values ≡ drop count self.now) }
     {
@@ -65,7 +66,7 @@ impl NoteValues {
         }
     }
 
-    /// The same values, once more. It takes no memory.
+    /// Returns the same values again, shared. It allocates no memory.
     pub fn share(&self) -> Result<NoteValues, AllocError>
         ensures { IfOk result (λ values. values ≡ self.now) }
     {
@@ -77,7 +78,7 @@ impl NoteValues {
         }
     }
 
-    /// Puts all of them, in order, at the end of a list.
+    /// Appends all values, in order, to a list.
     pub fn append_to(&self, nums: &mut Vec<Num>) -> Result<(), AllocError>
         ensures { IfOk result (λ _. nums.new.items ≡ nums.old.items ++ self.now) }
     {
@@ -88,7 +89,7 @@ impl NoteValues {
     }
 }
 
-// The runs from the first on that has more than `count` values of its own.
+// The run, or the first run below it that holds more than `count` values itself.
 fn behind(run: &Rc<Run>, count: usize) -> Result<NoteValues, AllocError>
     ensures { IfOk result (λ values. drop count values ≡ drop count (run_items (rc_value run.now))) }
 {

@@ -1,4 +1,5 @@
-// Scores of docs/LANGUAGE.md, read by the definitions: calls that do nothing, whose contracts are the examples.
+// Worked examples: the scores of docs/LANGUAGE.md, read by the definitions. These functions do nothing; their
+// contracts are the examples.
 ghost use Rattle.std.specs.Prelude.{◌≡◌, ◌∷◌, [], Ok, negsuc, codes};
 ghost use Rattle.cs_base.specs.declared.fault.ScoreKind.TheVariants as kind;
 ghost use Rattle.cs_base.specs.Lines.{excerpt};
@@ -6,9 +7,9 @@ ghost use Rattle.cs_score.specs.Statements.{score_of};
 ghost use Rattle.cs_score.specs.Worked.{AllRefused, bare_note, held_note, meant, note, refused, section_end, stop};
 ghost use Rattle.cs_score.specs.Worked.{table, whole};
 
-/// The scores of docs/LANGUAGE.md's table of starts, read by the definitions, and what else is said there of what an
-/// `i` takes from the statement before: it continues one with the same p1 by value, sign and all, and none past a
-/// `b`; comments and blank lines may stand between, and the base is 0 again in each section.
+/// The scores of docs/LANGUAGE.md's table of starts, and its rules for carried fields. An `i` continues a
+/// statement whose p1 has the same value and sign, but never one before a `b`. Comments and blank lines may
+/// come between, and each section begins with base 0.
 pub fn starts_worked_by_hand()
     ensures plus { meant (codes "i1 0 1 5\ni1 + . .\ni1 ^+2 . 6") ≡ Ok (note 1 0 5 ∷ note 2 1 5 ∷ note 3 3 6 ∷ []) }
     ensures left_off { meant (codes "i1 0 1 5\ni . +\ni") ≡ Ok (note 1 0 5 ∷ note 2 1 5 ∷ note 3 2 5 ∷ []) }
@@ -23,8 +24,8 @@ pub fn starts_worked_by_hand()
         ≡ Ok (bare_note 2 2 ∷ section_end 3 ∷ bare_note 4 0 ∷ []) }
 {}
 
-/// How docs/LANGUAGE.md reads fields, computed: times keep six digits and whole numbers are told by nine; a comment
-/// is a blank also within a word, and what follows an `e` isn't looked at.
+/// The way docs/LANGUAGE.md reads fields. Times have six decimal digits, and integers are recognised by nine.
+/// A comment is a blank even within a word, and text after an `e` is ignored.
 pub fn fields_worked_by_hand()
     ensures tiny { meant (codes "i1 -0.0000001 1") ≡ Ok (bare_note 1 0 ∷ []) }
     ensures whole_by_nine { (meant (codes "i1.0000000001 0 1") ≡ Ok (bare_note 1 0 ∷ []))
@@ -35,7 +36,7 @@ pub fn fields_worked_by_hand()
     ensures table { meant (codes "f1 0 4 -2 5 6") ≡ Ok (table 1 (negsuc 1) (whole 5 ∷ whole 6 ∷ []) ∷ []) }
 {}
 
-/// The examples of docs/LANGUAGE.md's table of refusals, read by the definitions: each is refused for its kind.
+/// The examples of docs/LANGUAGE.md's table of refusals: each is refused for the kind stated there.
 pub fn refusals_worked_by_hand()
     ensures bad_statement { AllRefused kind.BadStatement (codes "1 2" ∷ codes "{" ∷ []) }
     ensures bad_number { AllRefused kind.BadNumber (codes "i1 0 1e3" ∷ codes "i1 0 +" ∷ codes "i0 0 1"
@@ -52,9 +53,9 @@ pub fn refusals_worked_by_hand()
         ∷ codes "i1 ^1 1" ∷ codes "i0.5 0 1" ∷ codes "f-1 0 2 2" ∷ []) }
 {}
 
-/// The order of refusals, computed: statements in order; in a statement the letter, the fields from left to right,
-/// their count, and of a table its size (7), the size that its number had first (8), and its GEN (6). The line is the
-/// letter's.
+/// The order of refusals, with the numbers of faults. Statements come in order; in a statement the letter,
+/// then the fields from left to right, then their number. Of a table, its size comes first (7), then the
+/// first size of its number (8), then its GEN (6). The reported line is the line of the letter.
 pub fn order_of_refusals_worked_by_hand()
     ensures statements { meant (codes "i1 0\n1 2") ≡ refused 1 kind.MissingField }
     ensures letter { meant (codes "q 1e3") ≡ refused 1 kind.NotInProfile }

@@ -1,4 +1,4 @@
--- What turns do, by what they are.
+-- The actions of turns, by their kinds.
 use Rattle.std.proofs.Common.{◌≡◌, ℕ, ◌-◌, ℤ, List, [], ◌∷◌, Option, ap, sym, ◌∙◌}
 use Rattle.cs_score.specs.declared.statement.ScoreWhat.{ScoreWhat}
 use Rattle.cs_score.specs.declared.statement.ScoreWhat.TheVariants.{Note, Hold}

@@ -1,4 +1,4 @@
--- The events of a score: their cycles never fall, and each note ends within the score.
+-- The cycles of a score's events never fall, and each note ends within the score.
 use Rattle.std.proofs.Common.{◌≡◌, ℕ, zero, suc, ◌+◌, ◌<◌, ◌≤◌, true, false, ◌==◌, List, [], ◌∷◌, ◌++◌, map, sum}
 use Rattle.std.proofs.Common.{length, get_or, Option, Some, None, arith, refl, ap, sym, subst, ⊎_elim, ◌⊎◌, inl, inr}
 use Rattle.std.specs.{List.All, List.AllByRecursion as Each, Option.IfSome, Ordering.is_lt, Ordering.nat_cmp}
@@ -28,7 +28,7 @@ pub cycle_grows : (head : Head) (tempo : List TempoPoint) (a b : ℕ) → IsTemp
 unfolding cycle_at
 cycle_grows head tempo a b t up = cycles_grow _ _ head.sr head.ksmps (time_grows tempo a b t up)
 
--- turns in order: no beat is before that of the turn before
+-- turns in order: no beat is before the beat of the previous turn
 abbrev pub BeatsRise : ℕ → List ScoreStmt → Type 0
 BeatsRise low [] = Unit {0}
 BeatsRise low (s ∷ later) = (low ≤ beat_of s.what) × BeatsRise (beat_of s.what) later
@@ -71,7 +71,7 @@ order_rises (s ∷ later) =
     (λ t. rw t (put_rises 0 s (in_order later) (omega arith) (order_rises later)))
     (λ f. rw f (order_rises later)) (cases_Bool (has_turn s.what))
 
--- events of which none is before the one before it
+-- events in order: none is before the previous one
 abbrev pub Climb : ℕ → List Event → Type 0
 Climb low [] = Unit {0}
 Climb low (e ∷ later) = (low ≤ e.cycle) × Climb e.cycle later
@@ -98,7 +98,7 @@ climb_append : (low top : ℕ) (xs ys : List Event) → Climb low xs → Each (�
 climb_append low top [] ys c e up d = climb_low top low ys up d
 climb_append low top (x ∷ xs) ys c e up d = (c.0, climb_append x.cycle top xs ys c.1 e.1 e.0 d)
 
--- a turn does one thing at most
+-- a turn has at most one action
 pub one_act : (set : SectionSetting) (stop : Option ℕ) (w : ScoreWhat)
     → (acts_of set stop w ≡ []) ⊎ ((a : EventAct) × (acts_of set stop w ≡ a ∷ []))
 unfolding acts_of
@@ -154,7 +154,7 @@ along_within set earlier (s ∷ ss) t =
     ))
     (one_act set (stop_of earlier ss s) s.what)
 
--- sections in range
+-- the tempo of a section is in range
 either_tempo : (tempo : List TempoPoint) (w : ScoreWhat) → IsTempo tempo → HasRange w
     → IsTempo (or_else tempo (own_points w))
 either_tempo (p ∷ later) w t r = t
@@ -185,7 +185,7 @@ sections_in_range score r =
     each_more (Each IsInRange) (All IsInRange) (sections_of score) (λ section e. All-from_recursion IsInRange section e)
     (sections_each IsInRange score (recursion_from_All IsInRange score r))
 
--- the events of sections
+-- the events of sections end within them
 pub from_within : (head : Head) (offset : ℕ) (sections : List (List ScoreStmt)) → Each (All IsInRange) sections →
     Each (λ (e : Event). e.cycle + cycles_in e.act ≤ offset + sum (map (length_of head) sections))
     (events_from head offset sections)

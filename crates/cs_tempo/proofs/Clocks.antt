@@ -1,4 +1,4 @@
--- The time of a beat by the time of a point at or before it.
+-- The time of a beat, from the time of a point at or before it.
 use Rattle.std.proofs.Common.{◌≡◌, ℕ, zero, suc, ◌+◌, ◌-◌, ◌*◌, ◌^◌, ◌<◌, ◌≤◌, min, List, [], ◌∷◌, drop, take, length}
 use Rattle.std.proofs.Common.{get_or, arith, refl, sym, ◌∙◌}
 use Rattle.std.proofs.lemmas.List.{drop-drop, take_rest, get_or_read, length-drop}
@@ -8,7 +8,7 @@ use Rattle.cs_time.specs.Time.{part_of, time_along, time_of, Rises, cycle_of}
 use Rattle.cs_tempo.specs.inner.Clock.{point_at, IsTimed}
 use Rattle.cs_time.proofs.Times.{along_is, along_small, rises_on, tempo_rises}
 
--- what rises goes on rising
+-- the later points of a rising tempo rise too
 pub rises_drop : (ps : List TempoPoint) (k : ℕ) → Rises ps → Rises (drop k ps)
 rises_drop ps zero r = r
 rises_drop [] (suc k) r = tt
@@ -24,7 +24,7 @@ rises_to f [] k some r = absurd (omega arith)
 rises_to f (p ∷ later) zero some r = r.0
 rises_to f (p ∷ later) (suc k) some r = omega (arith, r.0, rises_to p.beat later k (omega arith) r.2)
 
--- a whole part is the same whichever later beat it lies before
+-- the time between two points is the same for every beat after them
 whole_part : (p q : TempoPoint) (rest : List TempoPoint) (x y : ℕ) → q.beat ≤ x → q.beat ≤ y
     → part_of p (q ∷ rest) x ≡ part_of p (q ∷ rest) y
 unfolding part_of
@@ -35,7 +35,7 @@ nothing_yet : (p : TempoPoint) (later : List TempoPoint) (x : ℕ) → Rises (p 
     → time_along (p ∷ later) x ≡ 0
 nothing_yet p later x r early = omega (arith, along_small p later x r.0 r.1)
 
--- the time of a beat is that of a point at or before it, and what passes from there
+-- the time of a beat is the time of a point at or before it, plus the time from there
 pub time_from : (ps : List TempoPoint) (k : ℕ) (x : ℕ) → Rises ps → k < length ps → (point_at ps k).beat ≤ x →
     time_along ps x ≡ time_along ps (point_at ps k).beat + time_along (drop k ps) x
 unfolding time_along
@@ -79,14 +79,14 @@ unfolding time_along
 first_time [] r = refl
 first_time (p ∷ later) r = sym (nothing_yet p later p.beat r (omega arith))
 
--- a cycle's number fits
+-- the number of a cycle fits into its type
 pub cycle_small : (ns sr ksmps : ℕ) → ns ≤ 60000 * beats_end → sr ≤ 192000 → 1 ≤ ksmps → cycle_of ns sr ksmps < 2 ^ 47
 unfolding cycle_of
 cycle_small ns sr ksmps early slow some =
     let m : ns * sr ≤ 60000 * beats_end * 192000 = mul-le ns sr (60000 * beats_end) 192000 early slow in
     div_below (2 * ns * sr + ksmps * 10 ^ 9) (2 * ksmps * 10 ^ 9) (2 ^ 47) (omega arith) (omega (arith, m))
 
--- a clock's reading: the time of a point, and what passes from there
+-- a clock's result: the time of a point, plus the time from there
 pub reading : (ps : List TempoPoint) (times : List ℕ) (k x t part : ℕ) → IsTimed ps times → k < length ps
     → (point_at ps k).beat ≤ x →
     t ≡ get_or times k t → part ≡ time_of (take (length ps - k) (drop k ps)) x → t + part ≡ time_of ps x

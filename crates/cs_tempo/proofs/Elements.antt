@@ -1,4 +1,4 @@
--- What holds of each element of a list, and of each statement of a score in its sections and in their order.
+-- Facts about each element of a list, and about each statement of a score in its sections and in their order.
 use Rattle.std.proofs.Common.{ℕ, zero, suc, List, [], ◌∷◌, ◌++◌, drop, ⊎_elim}
 use Rattle.std.specs.{List.AllByRecursion as Each, Ordering.is_lt}
 use Rattle.std.proofs.lemmas.Bool.{cases_Bool}

@@ -1,4 +1,4 @@
--- The stop that ends a held note: by the notes that sound, and by counting.
+-- The stop that ends a held note, found by the notes that sound, and found by counting.
 use Rattle.std.proofs.Common.{◌≡◌, ℕ, zero, suc, ◌<◌, Bool, true, false, cond, ◌==◌, ◌&&◌, List, [], ◌∷◌, ◌++◌, length}
 use Rattle.std.proofs.Common.{drop, Option, Some, None, slice_get, ℤ, arith, refl, ap, ◌∙◌, ⊎_elim, append_assoc}
 use Rattle.std.proofs.lemmas.{Bool.cases_Bool, Bool.Decides.nat_tests, List.length_push}
@@ -9,7 +9,7 @@ use Rattle.cs_tempo.specs.Pairing.{held_after, held, ends_here, or_later, ending
 use Rattle.std.specs.List.{AllByRecursion as Each}
 use Rattle.cs_tempo.proofs.Elements.{each_more}
 
--- one more turn changes places and number alike
+-- one more turn changes the list of sounding notes and their number in the same way
 one_more : (n index : ℕ) (w : ScoreWhat) (h : List ℕ) → length (held_after n index w h) ≡ sounding_after n w (length h)
 one_more n index (Hold instr at given more) h =
     ⊎_elim (λ t. rw t (length_push h index)) (λ f. rw f refl) (cases_Bool (n == instr))
@@ -17,7 +17,7 @@ one_more n index (Stop instr at) [] = ⊎_elim (λ t. rw t refl) (λ f. rw f ref
 one_more n index (Stop instr at) (p ∷ h) = ⊎_elim (λ t. rw t (omega arith)) (λ f. rw f refl) (cases_Bool (n == instr))
 one_more n index _ h = refl
 
--- as many places as notes
+-- the list of sounding notes has as many items as the count says
 held_counted : (n : ℕ) (earlier : List ScoreStmt) → length (held n earlier) ≡ sounding n earlier
 unfolding held sounding
 held_counted n [] = refl
@@ -41,7 +41,7 @@ lower_after n k (Stop instr at) h e =
     ⊎_elim (λ t. rw t (drop_one (λ p. p < suc k) h up)) (λ f. rw f up) (cases_Bool (n == instr))
 lower_after n k _ h e = each_more (λ p. p < k) (λ p. p < suc k) h (λ p l. omega arith) e
 
--- every index is that of an earlier turn
+-- every index of a sounding note belongs to an earlier turn
 held_lower : (n : ℕ) (earlier : List ScoreStmt) → Each (λ p. p < length earlier) (held n earlier)
 unfolding held
 held_lower n [] = tt
@@ -72,7 +72,7 @@ another false c at k rest later p h = h
 apart : (a index : ℕ) → a < index → (index == a) ≡ false
 apart a index h = grind (arith, nat_tests)
 
--- one turn: the stop ends the note, or it sounds on with those before it that still sound
+-- one turn: a stop ends the note, or the note sounds on, as do the notes before it that still sound
 module _ (n index : ℕ) where
   step : (k : ℕ) (w : ScoreWhat) (ahead behind : List ℕ) (rest : Option ℕ) (later : List ℕ)
       → Each (λ p. p < index) ahead →
@@ -110,7 +110,7 @@ held_now : (n at : ℕ) (given : ℤ) (more : List ℤ) (k : ℕ) (h : List ℕ)
     → held_after n k (Hold n at given more) h ≡ h ++ k ∷ []
 held_now n at given more k h = let same : (n == n) ≡ true = grind (arith, nat_tests) in rw same refl
 
--- the stop that ends a held note, where it starts as the last that sounds
+-- the stop that ends a held note, which is the last of the sounding notes when it starts
 pub first_ended : (h : ScoreStmt) (n at : ℕ) (given : ℤ) (more : List ℤ) (earlier later : List ScoreStmt)
     → h.what ≡ Hold n at given more → ending_stop n (length earlier) (h ∷ earlier) later ≡ stop_after n earlier later
 unfolding held

@@ -1,4 +1,4 @@
--- The first item that passes a test, and a count with one item more.
+-- The first item that passes a test, and a count after one more item.
 use Rattle.std.proofs.Common.{◌≡◌, ℕ, ◌+◌, ◌<◌, ◌≤◌, Bool, true, false, cond, Some, None, List, ◌∷◌, [], ◌++◌, length}
 use Rattle.std.proofs.Common.{get_or, drop, take, refl, ap, sym, ◌∙◌}
 use Rattle.std.specs.List.{count_by}
@@ -29,7 +29,7 @@ pub first_none : {A : Type 0} (passes : List A → A → Bool) (xs : List A) (k 
 unfolding first_at
 first_none passes xs k all = ap (first_at passes (take k xs)) (drop_all k xs all)
 
--- a count with one more item
+-- a count after one more item
 pub count_more : {X : Type 0} (p : X → Bool) (xs : List X) (k : ℕ) (x : X) → k < length xs → x ≡ get_or xs k x →
     count_by p (take (k + 1) xs) ≡ count_by p (take k xs) + cond (p x) 1 0
 count_more p xs k x some here =

@@ -1,4 +1,4 @@
--- The order of a section's turns: sorted by their keys they are the statements in order.
+-- The order of a section's turns: sorting them by their keys puts the statements in order.
 use Rattle.std.proofs.Common.{◌≡◌, ℕ, ◌+◌, ◌<◌, ◌≤◌, true, false, List, [], ◌∷◌, ◌++◌, length, get_or, drop, take, map}
 use Rattle.std.proofs.Common.{ℤ, arith, refl, ap, sym, ◌∙◌, ⊎_elim, append_assoc, append-nil}
 use Rattle.std.specs.{Cmp.IsTotalOrder, declared.cmp.Ordering.Ordering, List.AllByRecursion as Each}
@@ -59,7 +59,7 @@ module _ (section : List ScoreStmt) (d : ScoreStmt) where
   abbrev pub stmt : SortKey → ScoreStmt
   stmt t = get_or section t.index d
 
-  -- a turn that is that of a statement at an index from k on
+  -- a turn of a statement whose index is at least k
   pub record IsFrom (k : ℕ) (t : SortKey) : Type 0 where
     pub after : k ≤ t.index
     pub within : t.index < length section
@@ -112,7 +112,7 @@ module _ (section : List ScoreStmt) (d : ScoreStmt) where
       ))
       (λ f. rw f rest) (cases_Bool (has_turn s.what))
 
-  -- the statements of the sorted turns
+  -- the statements of the sorted turns are the statements in order
   pub order_is : (k : ℕ) (later : List ScoreStmt) → drop k section ≡ later
       → map stmt (sorted turn_order (turns_from k later)) ≡ in_order later
   unfolding turns_from in_order
@@ -125,7 +125,7 @@ module _ (section : List ScoreStmt) (d : ScoreStmt) where
       (each_sorted turn_order turn_total (IsFrom (k + 1)) _ more) ∙ ap (put s) ih))
       (λ f. rw f ih) (cases_Bool (has_turn s.what))
 
--- a walk over a section: the turns so far, and those of the rest
+-- one step of a walk over a section: the turns so far, and the turns of the rest
 pub turn_more : (section : List ScoreStmt) (k : ℕ) (s : ScoreStmt) (done : List SortKey) → k < length section
     → s ≡ get_or section k s →
     (done ++ own_turn k s.what) ++ turns_from (k + 1) (drop (k + 1) section) ≡ done ++ turns_from k (drop k section)
@@ -139,7 +139,7 @@ pub turn_none : (section : List ScoreStmt) (k : ℕ) (done : List SortKey) → l
 unfolding turns_from
 turn_none section k done all = ap (λ r. done ++ r) (at_drop_all (turns_from k) section k all) ∙ append-nil done
 
--- the sorted turns lie in the section
+-- each sorted turn is a statement of the section
 pub turns_within : (section : List ScoreStmt) (d : ScoreStmt) (k : ℕ) (e : SortKey)
     → k < length (sorted turn_order (turns_from 0 section)) →
     (get_or (sorted turn_order (turns_from 0 section)) k e).index < length section
@@ -147,7 +147,7 @@ turns_within section d k e some =
     (All-from_recursion (IsFrom section d 0) _
     (each_sorted turn_order turn_total (IsFrom section d 0) _ (turns_are section d 0 section refl)) k e some).within
 
--- a walk that takes what it finds
+-- one step of a walk that collects items
 pub taken_more : {A B C : Type 0} (f : A → C) (g : B → C) (taken : List A) (a : A) (bs : List B) (k : ℕ) (e : B)
     → k < length bs → f a ≡ g (get_or bs k e) →
     map f taken ≡ map g (take k bs) → map f (taken ++ a ∷ []) ≡ map g (take (k + 1) bs)

@@ -1,4 +1,4 @@
--- The sections of a score, and what they are asked for.
+-- The sections of a score, and the facts that are needed about them.
 use Rattle.std.proofs.Common.{◌≡◌, ℕ, ◌+◌, ◌<◌, ◌≤◌, List, [], ◌∷◌, ◌++◌, drop, take, length, get_or, true, false, refl}
 use Rattle.std.proofs.Common.{ap, sym, ◌∙◌, append-nil}
 use Rattle.std.proofs.lemmas.List.{take_more, take_all, at_drop_more, at_drop_all}
@@ -6,7 +6,7 @@ use Rattle.cs_score.specs.{declared.statement.TempoPoint.TempoPoint, declared.st
 use Rattle.cs_score.specs.{declared.statement.ScoreWhat.TheVariants.Section, declared.statement.ScoreStmt.ScoreStmt}
 use Rattle.cs_tempo.specs.Sections.{ends_section, at_front, sections_of, own_points, or_else, tempo_of}
 
--- statements in front of the first of some sections
+-- statements added at the beginning of the first section
 abbrev pub in_front : List ScoreStmt → List (List ScoreStmt) → List (List ScoreStmt)
 in_front [] sections = sections
 in_front (s ∷ later) sections = at_front s (in_front later sections)
@@ -35,7 +35,7 @@ pub no_end : (w : ScoreWhat) → (w ≡ Section → ⊥) → ends_section w ≡ 
 no_end Section h = absurd (h refl)
 no_end _ h = refl
 
--- a walk over the statements of a score, so far without an `s`
+-- a walk over the statements of a score that has found no `s` so far
 pub read_on : (score : List ScoreStmt) (k : ℕ) (s : ScoreStmt) → k < length score → s ≡ get_or score k s
     → (s.what ≡ Section → ⊥) → sections_of score ≡ in_front (take k score) (sections_of (drop k score)) →
     sections_of score ≡ in_front (take (k + 1) score) (sections_of (drop (k + 1) score))
@@ -64,7 +64,7 @@ read_all score k all h =
     h ∙ ap (in_front (take k score)) (at_drop_all sections_of score k all) ∙ in_front_of (take k score) [] []
     ∙ ap (λ t. t ∷ []) (append-nil (take k score) ∙ take_all k score all)
 
--- the tempo so far and that of the rest
+-- combining the tempo so far with the tempo of the rest is associative
 or_else_three : (a b c : List TempoPoint) → or_else (or_else a b) c ≡ or_else a (or_else b c)
 or_else_three [] b c = refl
 or_else_three (p ∷ a) b c = refl

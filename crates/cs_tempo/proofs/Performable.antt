@@ -1,4 +1,4 @@
--- The plot of a score that passes no limit can be performed.
+-- The plot of a score within all limits can be performed.
 use Rattle.std.proofs.Common.{◌≡◌, ℕ, zero, suc, ◌+◌, ◌<◌, ◌≤◌, ◌&&◌, nat_le, nat_lt, Bool, true, false, cond, List, []}
 use Rattle.std.proofs.Common.{◌∷◌, ◌++◌, length, map, sum, take, get_or, Option, Some, None, IfOk, OnOk, Result, Ok}
 use Rattle.std.proofs.Common.{Err, refl, ap, sym, subst, ◌∙◌, arith, append_assoc, add-one, if◌then◌else◌, ⊎_elim}
@@ -47,7 +47,7 @@ not_more m n e = grind (arith, nat_tests)
 
 -- ---- the notes of a cycle
 
--- the events' cycles don't fall, from one event to all later ones
+-- each event's cycle is at most the cycle of every later event
 abbrev InOrder : List Event → Type 0
 InOrder [] = Unit {0}
 InOrder (e ∷ later) = Each (λ f. e.cycle ≤ f.cycle) later × InOrder later
@@ -92,7 +92,7 @@ count_le p q (x ∷ xs) all =
       count_le p q xs all.1,
     )
 
--- an active note more is one of those that are active where it starts
+-- if a further note is active, it is counted at its start
 few_more : (c n : ℕ) (xs : List Event) (d : Event) → InOrder xs → n < length xs
     → nat_lt 512 (count_by (is_active (get_or xs n d).cycle) (take (suc n) xs)) ≡ false
     → (b : Bool) → is_active c (get_or xs n d) ≡ b → count_by (is_active c) (take n xs) ≤ 512
@@ -126,7 +126,7 @@ few_active c (x ∷ xs) order none =
     subst P (take_all (length (x ∷ xs)) (x ∷ xs) (omega arith))
     (few_upto c (x ∷ xs) x order none (length (x ∷ xs)) (omega arith))
 
--- ---- no more events than statements
+-- ---- at most as many events as statements
 
 counts_few : (score : List ScoreStmt) → first_at passes_events [] score ≡ None → count_by counts score ≤ most_events
 counts_few [] none = omega arith
@@ -217,7 +217,7 @@ sections_count (s ∷ later) =
     )))
     (λ f. rw f (omega (arith, more, one, front_counts s (sections_of later)))) (cases_Bool (ends_section s.what))
 
--- ---- what events do
+-- ---- the actions of events
 
 one_is : {x y : EventAct} → x ∷ [] ≡ y ∷ [] → x ≡ y
 one_is e = cc

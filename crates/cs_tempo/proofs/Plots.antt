@@ -8,7 +8,7 @@ use Rattle.cs_score.specs.declared.statement.ScoreStmt.{ScoreStmt}
 use Rattle.cs_tempo.specs.{declared.plot.Event.Event, Sections.length_of, Sections.sections_of, Order.in_order}
 use Rattle.cs_tempo.specs.Plot.{setting_of, events_along, events_from}
 
--- the lengths of all sections that are left: that of the first, and those behind it
+-- the lengths of all remaining sections: the first section's, and the lengths of the sections after it
 pub length_first : (head : Head) (left : List ScoreStmt) (end total : ℕ) →
     sections_of left ≡ take end left ∷ sections_of (drop (end + 1) left) →
     total + length_of head (take end left) + sum (map (length_of head) (sections_of (drop (end + 1) left)))
@@ -21,7 +21,7 @@ length_first head left end total h =
           (map (length_of head) (sections_of (drop (end + 1) left))),
     )
 
--- the events of the first section that is left, then those behind it
+-- the events of the first remaining section, followed by the events of the sections after it
 pub events_first : (head : Head) (offset : ℕ) (left : List ScoreStmt) (end : ℕ) (done : List Event) →
     sections_of left ≡ take end left ∷ sections_of (drop (end + 1) left) →
     (done ++ events_along (setting_of head offset (take end left)) [] (in_order (take end left)))
@@ -33,7 +33,7 @@ events_first head offset left end done h =
     (events_from head (offset + length_of head (take end left)) (sections_of (drop (end + 1) left)))
     ∙ ap (λ ss. done ++ events_from head offset ss) (sym h)
 
--- the events of the last one
+-- the events of the last section
 pub events_last : (head : Head) (offset : ℕ) (left : List ScoreStmt) (done : List Event) →
     sections_of left ≡ left ∷ [] → done ++ events_along (setting_of head offset left) [] (in_order left)
     ≡ done ++ events_from head offset (sections_of left)
@@ -42,7 +42,7 @@ events_last head offset left done h =
     ap (λ es. done ++ es) (sym (append-nil (events_along (setting_of head offset left) [] (in_order left))))
     ∙ ap (λ ss. done ++ events_from head offset ss) (sym h)
 
--- the length of the last one
+-- the length of the last section
 pub length_last : (head : Head) (left : List ScoreStmt) (end : ℕ) → sections_of left ≡ left ∷ [] → end ≡ length left
     → length_of head (take end left) ≡ sum (map (length_of head) (sections_of left))
 length_last head left end last all =
@@ -50,7 +50,7 @@ length_last head left end last all =
     let sums = ap (λ ss. sum (map (length_of head) ss)) last in
     let whole = ap (length_of head) (take_all end left (omega (arith, all))) in omega (arith, one, sums, whole)
 
--- the first section of those left is no longer than all of them
+-- the first remaining section is at most as long as all remaining ones
 pub first_short : (head : Head) (offset : ℕ) (left : List ScoreStmt) (end : ℕ) → end ≤ length left
     → (end < length left → sections_of left ≡ take end left ∷ sections_of (drop (end + 1) left))
     → (end ≡ length left → sections_of left ≡ left ∷ [])

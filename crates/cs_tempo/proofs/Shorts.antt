@@ -1,4 +1,4 @@
--- A score that passes no limit is short.
+-- A score within all limits is short.
 use Rattle.std.proofs.Common.{◌≡◌, ℕ, ◌*◌, ◌^◌, ◌≤◌, Bool, true, false, nat_lt, Option, Some, None, List, [], map, sum}
 use Rattle.std.proofs.Common.{arith, refl, if◌then◌else◌}
 use Rattle.std.proofs.lemmas.{Bool.Decides.nat_tests, Nat.mul-le}
@@ -28,7 +28,7 @@ module _ (head : Head) (score : List ScoreStmt) (h : limit_of head score ≡ Non
   abbrev pub cycles : ℕ
   cycles = sum (map (length_of head) (sections_of score))
 
-  -- none of its limits is passed
+  -- the score exceeds none of the limits on its statements
   pub counts_within : limit_of_score score ≡ None
   counts_within = (both_none (limit_of_score score) _ h).0
 

@@ -1,4 +1,5 @@
--- Sorting by a total order in which only the same value is equal: a sorted permutation is the list by insertion.
+-- Sorting by a total order in which only identical items are equal: a sorted permutation is the list sorted
+-- by insertion.
 use Rattle.std.proofs.Common.{◌≡◌, ℕ, suc, ◌<◌, ◌≤◌, Bool, true, false, cond, List, [], ◌∷◌, length, get_or, arith}
 use Rattle.std.proofs.Common.{refl, ap, sym, ◌∙◌, ⊎_elim, ◌⊎◌, inl, inr}
 use Rattle.std.specs.{Cmp.IsTotalOrder, Cmp.IsStrictWeakOrder, declared.cmp.Ordering.Ordering}
@@ -89,7 +90,7 @@ module _ {X : Type 0} (R : X → X → Ordering) (o : IsTotalOrder R) (same : (x
       let zero_here : f x ≡ 0 =
       ap (λ b. cond b 1 0) e.0 in omega (arith, sum_by-cons f x xs, none_counted z xs e.1, zero_here)
 
-  -- what is below a first item is none of the items behind it
+  -- an item below the first item of a sorted list isn't in that list
   apart : (x y z : X) → R x y ≡ Less → is_lt (R z y) ≡ false → is_eq (R x z) ≡ false
   apart x y z low h =
       ⊎_elim (λ l. ap is_eq l)
@@ -118,7 +119,7 @@ module _ {X : Type 0} (R : X → X → Ordering) (o : IsTotalOrder R) (same : (x
       let f : X → ℕ = λ u. cond (is_eq (R z u)) 1 0 in
       omega (arith, ap f p, sum_by-cons f x xs, sum_by-cons f y ys, e)
 
-  -- two rising lists of the same items are one list
+  -- two rising lists of the same items are the same list
   pub one_order : (xs ys : List X) → Rising R o xs → Rising R o ys → ((z : X) → count z xs ≡ count z ys) → xs ≡ ys
   one_order [] [] r s e = refl
   one_order [] (y ∷ ys) r s e = absurd (omega (arith, counted_itself y ys, e y))
@@ -138,7 +139,7 @@ module _ {X : Type 0} (R : X → X → Ordering) (o : IsTotalOrder R) (same : (x
     rising_from_far xs (λ i j d p l. h (suc i) (suc j) d (omega arith) (omega arith)),
   )
 
-  -- what std's sort gives
+  -- the result of std's sort
   pub is_sorted : (xs ys : List X) → IsPermutation xs ys → IsSorted R ys → ys ≡ sorted R xs
   is_sorted xs ys p s =
       one_order ys (sorted R xs) (rising_from_far ys (sorted_far (λ x y. is_lt (R x y)) (order R o) ys s))

@@ -1,5 +1,5 @@
--- The order of a section by its own rule: nothing stands before what comes before it, and what is equal keeps its
--- order.
+-- The order of a section follows its rule: no turn comes after one that it precedes, and equal turns keep
+-- their order.
 use Rattle.std.proofs.Common.{◌≡◌, zero, suc, Bool, true, false, cond, List, [], ◌∷◌, filter, arith, refl, ap, sym, ◌∙◌}
 use Rattle.std.proofs.Common.{if◌then◌else◌, AllPairs}
 use Rattle.std.specs.{Cmp.IsTotalOrder, Ordering.is_lt, Ordering.is_eq, declared.cmp.Ordering.Ordering}
@@ -45,7 +45,7 @@ in_order_is (s ∷ later) =
     by false here more = more
 
 module _ {X : Type 0} (R : X → X → Ordering) (o : IsTotalOrder R) where
-  -- of two items that are equal to a third none comes before the other
+  -- if two items are equal to a third, neither comes before the other
   none_before : (x s u : X) → is_lt (R u s) ≡ true → is_eq (R x u) ≡ true → is_eq (R x s) ≡ true → ⊥
   none_before x s u low a b = clash (R u s) low (ap is_eq (sym (o.congr x u s (equal (R x u) a))) ∙ b)
     where
@@ -62,7 +62,7 @@ module _ {X : Type 0} (R : X → X → Ordering) (o : IsTotalOrder R) where
   abbrev like : X → X → Bool
   like x u = is_eq (R x u)
 
-  -- an item that is put among others stands before all that are equal to it
+  -- an inserted item comes before all items that are equal to it
   like_inserted : (x s : X) (us : List X) → filter (like x) (inserted R s us) ≡ filter (like x) (s ∷ us)
   like_inserted x s [] = refl
   like_inserted x s (u ∷ us) =

@@ -1,4 +1,4 @@
--- Counting active notes by those that started and those that ended.
+-- Active notes are counted as started notes minus ended notes.
 use Rattle.std.proofs.Common.{◌≡◌, ℕ, ◌+◌, ◌<◌, ◌≤◌, Bool, true, false, cond, not, ◌==◌, ◌&&◌, nat_le, nat_lt, List, []}
 use Rattle.std.proofs.Common.{◌∷◌, ◌++◌, length, get_or, drop, take, arith, refl, ap, sym, ◌∙◌, subst, append_assoc}
 use Rattle.std.proofs.Common.{append-nil, zero-add}
@@ -15,7 +15,7 @@ use Rattle.cs_tempo.proofs.Firsts.{count_more}
 abbrev has_ended : ℕ → Event → Bool
 has_ended c e = is_note e && nat_le (e.cycle + cycles_in e.act) c
 
--- of one note that started at cycle t and lasts n
+-- one note that starts at cycle t and lasts n cycles
 one_counted : (t n c : ℕ) → t ≤ c
     → cond (nat_le t c && nat_lt c (t + n)) 1 0 + cond (not (n == 0) && nat_le (t + n) c) 1 0 ≡ cond (not (n == 0)) 1 0
 one_counted t n c h = grind (arith, nat_tests)
@@ -100,7 +100,7 @@ past_counted ends c j up p =
       p.within,
     )
 
--- the notes that are active when an event is done
+-- the number of notes that are active at an event
 pub active_count : (events : List Event) (ends : List ℕ) (k j : ℕ) (e : Event) → k < length events
     → e ≡ get_or events k e →
     IsNonDecreasingBy (λ (x : Event). x.cycle) events → IsPermutation (ends_of events) ends → IsNonDecreasing ends
@@ -139,7 +139,7 @@ pub ends_more : (xs : List Event) (k : ℕ) (e : Event) → k < length xs → e 
 ends_more xs k e some here =
     ends_push (take k xs) e ∙ ap ends_of (ap (λ y. take k xs ++ y ∷ []) here ∙ sym (take_more xs k e some))
 
--- the same with the numbers that the walk keeps
+-- the number of notes that are active at an event, from the numbers that the walk stores
 pub counted_here : (events : List Event) (ends seen : List ℕ) (k j : ℕ) (e : Event) (started notes c : ℕ)
     → k < length events → e ≡ get_or events k e →
     IsNonDecreasingBy (λ (x : Event). x.cycle) events → IsPermutation (ends_of events) ends → IsNonDecreasing ends →
@@ -156,7 +156,7 @@ counted_here events ends seen k j e started notes c some here up perm order s n 
       n,
     )
 
--- what ended by one event has ended by each later one
+-- an end that is passed at one event is passed at each later event
 pub ended_later : (events : List Event) (ends seen : List ℕ) (k j : ℕ) (e : Event) (c : ℕ) → k < length events
     → e ≡ get_or events k e →
     IsNonDecreasingBy (λ (x : Event). x.cycle) events → seen ≡ ends → c ≡ e.cycle → HaveEnded seen c j →

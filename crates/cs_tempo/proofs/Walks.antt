@@ -21,7 +21,7 @@ note_within : (pace : Pace) (cycles at len : ℕ) → end_of pace.head pace.temp
     → cycle_at pace.head pace.tempo at ≤ cycles
 note_within pace cycles at len h = grind (arith, nat_tests)
 
--- a beat's cycle lies in its section
+-- the cycle of a turn's beat is within its section
 pub start_within : (pace : Pace) (cycles : ℕ) (w : ScoreWhat) → HasRange w → reach_of pace.head pace.tempo w ≤ cycles
     → has_turn w ≡ true → HasEnd pace cycles (beat_of w)
 start_within pace cycles (Note instr at len more) r h t =
@@ -38,7 +38,7 @@ own_within pace cycles n (Stop instr at) later r h e =
     ⊎_elim (λ t. rw t (record { beat = r.1; cycle = h }, e)) (λ f. rw f e) (cases_Bool (nat_eq n instr))
 own_within pace cycles n _ later r h e = e
 
--- each stop of an instrument lies in the section
+-- each stop of an instrument is within the section
 stops_within : (pace : Pace) (cycles n : ℕ) (ss : List ScoreStmt) → Each (IsTurnIn pace cycles) ss
     → Each (HasEnd pace cycles) (stops_of n ss)
 unfolding stops_of
@@ -51,7 +51,7 @@ found_within P [] k e = tt
 found_within P (x ∷ xs) zero e = e.0
 found_within P (x ∷ xs) (suc k) e = found_within P xs k e.1
 
--- a turn's index in a walk
+-- the rest of a list from the index of a walk on
 pub ahead : (ss : List ScoreStmt) (k : ℕ) (s : ScoreStmt) → k < length ss → s ≡ get_or ss k s
     → drop k ss ≡ s ∷ drop (k + 1) ss
 ahead ss k s some at = drop_more ss k s some ∙ ap (λ x. x ∷ drop (k + 1) ss) (sym at)
@@ -74,7 +74,7 @@ pub events_none : (set : SectionSetting) (ss : List ScoreStmt) (k : ℕ) (done :
 unfolding events_along
 events_none set ss k done all = rw (drop_all k ss all) (append-nil done)
 
--- what the queues say of a turn
+-- a turn's ending stop, from the queues
 module _ (earlier later : List ScoreStmt) (s : ScoreStmt) where
   ending_of : (w : ScoreWhat) (stops : ℕ → List ℕ) → s.what ≡ w → ((n : ℕ) → stops n ≡ own_stop n w ++ stops_of n later)
       → ending w stops (λ n. sounding n earlier) ≡ ended_by w (length earlier) (s ∷ earlier) later
@@ -87,7 +87,7 @@ module _ (earlier later : List ScoreStmt) (s : ScoreStmt) where
   unfolding stops_of
   ending_is = ending_of s.what (λ n. stops_of n (s ∷ later)) refl (λ n. refl)
 
-  -- the stop that ends it lies in the section
+  -- the stop that ends a held note is within the section
   ended_within : (pace : Pace) (cycles : ℕ) (w : ScoreWhat) → s.what ≡ w → Each (IsTurnIn pace cycles) later
       → IfSome (ended_by w (length earlier) (s ∷ earlier) later) (HasEnd pace cycles)
   ended_within pace cycles (Hold instr at given more) is e =
@@ -153,12 +153,12 @@ each_seen P f (x ∷ xs) e = (e.0, each_seen P f xs e.1)
 pub all_map : {X Y : Type 0} (P : Y → Type 0) (f : X → Y) (xs : List X) → Each P (map f xs) → All (λ x. P (f x)) xs
 all_map P f xs e = All-from_recursion (λ x. P (f x)) xs (each_seen P f xs e)
 
--- an item of a list that is seen through a function
+-- an item of a list, mapped by a function
 pub seen_at : {X Y : Type 0} (f : X → Y) (xs : List X) (k : ℕ) (x : X) → k < length xs → x ≡ get_or xs k x
     → f x ≡ get_or (map f xs) k (f x)
 seen_at f xs k x some at = ap f at ∙ sym (get_or-map f xs k x (f x) some)
 
--- one step of the walk: the turn s at index k, with those before it and those behind it
+-- one step of the walk: the turn s at index k, the turns before it and the turns after it
 module _ (ss : List ScoreStmt) (k : ℕ) (s : ScoreStmt) (some : k < length ss) (here : s ≡ get_or ss k s) where
   abbrev pub before : List ScoreStmt
   before = reverse (take k ss)

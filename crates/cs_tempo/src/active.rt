@@ -1,4 +1,4 @@
-// Counts the notes that are active in a cycle, by one way through the events in order.
+// Counts the notes that are active in each cycle, in one pass through the events in order.
 ghost use Rattle.std.specs.Prelude.{◌≡◌, ◌≤◌, ◌<◌, ◌+◌, ◌++◌, [], ℕ, length, nat_lt, slice_index, cond, IfOk, OnOk};
 ghost use Rattle.cs_base.specs.Limits.{most_notes};
 ghost use Rattle.std.specs.List.Sorted.{IsNonDecreasingBy, IsNonDecreasing, IsPermutation};
@@ -10,7 +10,7 @@ use crate::plot::{Event, EventAct};
 use cs_base::{Limit, LimitHit, MOST_NOTES, OutOfMemory};
 use std::alloc::Global;
 
-/// The limit hit at the first start with which more notes are active in its cycle than allowed.
+/// The limit hit at the first start that makes more notes active in its cycle than allowed, or `None`.
 pub fn note_hit(alloc: Global, events: &[Event]) -> Result<Option<LimitHit>, OutOfMemory>
     requires { IsNonDecreasingBy (λ e. e.cycle) events.now }
     ensures { IfOk result (λ hit. hit ≡ at_event (first_at passes_notes [] events.now)) }
@@ -31,14 +31,14 @@ pub fn note_hit(alloc: Global, events: &[Event]) -> Result<Option<LimitHit>, Out
     Ok(None)
 }
 
-// Whether so many active notes are more than allowed.
+// Whether this number of active notes exceeds the limit.
 fn is_too_many(active: usize) -> bool
     ensures { result ≡ nat_lt most_notes active }
 {
     active > MOST_NOTES
 }
 
-// How many of the ends are at or before a cycle, where `from` of them are.
+// The number of ends at or before a cycle. The first `from` of them are known to be.
 fn ended_by(ends: &[u64], from: usize, cycle: u64) -> usize
     requires within { from ≤ length ends.now }
     requires below { (i : ℕ) → i < from → slice_index ends.now i ≤ cycle }
@@ -51,7 +51,7 @@ fn ended_by(ends: &[u64], from: usize, cycle: u64) -> usize
     ended
 }
 
-// The cycles in which notes end, ascending.
+// The cycles in which notes end, in ascending order.
 fn sorted_ends(alloc: Global, events: &[Event]) -> Result<Vec<u64>, OutOfMemory>
     ensures ends { IfOk result (λ ends. IsPermutation (ends_of events.now) ends.items) }
     ensures order { IfOk result (λ ends. IsNonDecreasing ends.items) }
@@ -80,7 +80,7 @@ fn notes_in(event: &Event) -> usize
     if cycles_in(&event.act) > 0 { 1 } else { 0 }
 }
 
-// How many cycles an event's note lasts; none for a table.
+// The number of cycles that an event's note lasts, or 0 for a table.
 fn cycles_in(act: &EventAct) -> u32
     ensures { result ≡ cycles_in act.now }
 {

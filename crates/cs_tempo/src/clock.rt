@@ -1,4 +1,4 @@
-// The clock of a section: it finds the time of a beat by the ramp that the beat lies in alone.
+// The clock of a section: finds the time of a beat from one ramp, the one that contains the beat.
 ghost use Rattle.std.specs.Prelude.{◌≡◌, ◌≤◌, ◌<◌, ◌+◌, ◌-◌, ◌*◌, ◌^◌, length, IfOk};
 ghost use Rattle.cs_score.specs.Ranges.{beats_end};
 ghost use Rattle.cs_time.specs.Time.{time_along, time_of, IsTempo, Rises};
@@ -10,7 +10,7 @@ use cs_time::{beat_time, cycle_of, first_part};
 use std::alloc::Global;
 use std::marker::Model;
 
-/// The points of a section's tempo with the time of each.
+/// The points of a section's tempo, with the time of each.
 #[derive(Drop)]
 pub struct Clock<'s> {
     head: Head,
@@ -29,6 +29,7 @@ impl<'s> Model for Clock<'s> {
 }
 
 impl<'s> Clock<'s> {
+    /// The clock of a section with these tempo points.
     pub fn new(
         alloc: Global,
         head: &Head,
@@ -60,7 +61,7 @@ impl<'s> Clock<'s> {
         self.times[k] + beat_time(&self.points[k..], beat)
     }
 
-    /// The time from one beat to another that isn't before it.
+    /// The time from beat `from` to beat `to` in nanoseconds.
     pub fn span(&self, from: u64, to: u64) -> u64
         requires order { from ≤ to }
         requires to { to < beats_end }
@@ -70,7 +71,7 @@ impl<'s> Clock<'s> {
         self.time(to) - self.time(from)
     }
 
-    /// The control cycle of a beat, from the start of the section.
+    /// The control cycle of a beat, counted from the start of the section.
     #[tactic(auto, unfolding(crate::specs::Sections::cycle_at), using(crate::proofs::Clocks::cycle_small))]
     pub fn cycle(&self, beat: u64) -> u64
         requires { beat < beats_end }
@@ -95,7 +96,7 @@ fn times_of(alloc: Global, points: &[TempoPoint]) -> Result<Vec<u64>, OutOfMemor
     Ok(times)
 }
 
-// The time of a point, by that of the point before it.
+// The time of point `k`, from the time `before` of the point before it.
 fn time_at(points: &[TempoPoint], k: usize, before: u64) -> u64
     requires rising { Rises points.now }
     requires within { k < length points.now }
@@ -108,7 +109,7 @@ fn time_at(points: &[TempoPoint], k: usize, before: u64) -> u64
     before + first_part(&points[k - 1..], points[k].beat)
 }
 
-// The last point at or before a beat: a point lies there, the first.
+// The index of the last point at or before a beat. There is one, because the first point is.
 fn ramp_of(points: &[TempoPoint], beat: u64) -> usize
     requires some { 0 < length points.now }
     requires first { (point_at points.now 0).beat ≤ beat }

@@ -1,4 +1,4 @@
-// The events of a section, at their control cycles.
+// The events of a section at their control cycles.
 ghost use Rattle.std.specs.Prelude.{◌≡◌, ℕ, List, ◌≤◌, ◌<◌, ◌+◌, ◌-◌, ◌*◌, ◌^◌, ◌++◌, [], map, length, pos, IfOk, OnOk};
 ghost use Rattle.std.specs.{Prelude.IfSome, List.All};
 ghost use Rattle.cs_score.specs.Ranges.{IsInRange, HasRange, IsInstrument, beats_end};
@@ -20,7 +20,7 @@ use cs_time::seconds_of;
 use std::alloc::Global;
 use std::cmp::max;
 
-/// Adds the events of a section that begins at cycle `offset` and lasts `cycles`.
+/// Adds the events of a section that begins at cycle `offset` and lasts `cycles` cycles.
 pub fn add_section(
     alloc: Global,
     clock: &Clock,
@@ -104,7 +104,7 @@ fn beat_of(what: &ScoreWhat) -> u64
     }
 }
 
-// What a turn does, where `stop` is the beat of the stop that ends it.
+// The action of a turn. `stop` is the beat of the stop that ends it.
 #[tactic(auto, unfolding(crate::specs::Plot::acts_of))]
 fn act_of(
     alloc: Global,
@@ -184,7 +184,7 @@ fn note(
     })
 }
 
-// How long a held note lasts that the stop at beat `stop` ends, or else its section.
+// The number of cycles that a held note lasts: until the stop at beat `stop`, or else until its section ends.
 fn held_cycles(clock: &Clock, cycles: u32, at: u64, stop: Option<u64>) -> u32
     requires at { HasEnd clock.now cycles at }
     requires stop { IfSome stop (λ beat. HasEnd clock.now cycles beat) }
@@ -200,7 +200,7 @@ fn held_cycles(clock: &Clock, cycles: u32, at: u64, stop: Option<u64>) -> u32
     (max(end, start + 1) - start) as u32
 }
 
-// A note's fields: p1, p2 and p3, and those that the score gives beyond.
+// A note's fields: p1, p2 and p3, followed by the score's fields from p4 on.
 fn fields_of(
     clock: &Clock,
     instr: u32,

@@ -6,7 +6,7 @@ use cs_score::NoteValues;
 use std::alloc::{AllocError, Global};
 use std::marker::Model;
 
-/// The p-fields of a note, from p1 on; those from p4 on may be shared. Contracts see their list, and nothing else.
+/// The p-fields of a note, from p1 on. Those from p4 on may be shared. Contracts see only the list of fields.
 #[derive(Drop)]
 pub struct NoteFields {
     p1: Num,
@@ -24,14 +24,14 @@ impl Model for NoteFields {
 }
 
 impl NoteFields {
-    /// p1, p2 and p3, and what follows.
+    /// p1, p2 and p3, followed by the fields from p4 on.
     pub fn new(p1: Num, p2: Num, p3: Num, more: NoteValues) -> NoteFields
         ensures { result ≡ p1 ∷ p2 ∷ p3 ∷ more }
     {
         NoteFields { p1, p2, p3, more }
     }
 
-    /// All of them, as one list.
+    /// Returns all fields as one list.
     pub fn to_nums(&self, alloc: Global) -> Result<Nums, AllocError>
         ensures { IfOk result (λ nums. nums ≡ self.now) }
     {

@@ -1,4 +1,5 @@
-// What holds of the definitions for every score: calls that do nothing, whose contracts are the laws.
+// Facts about the definitions that hold for every score. These functions do nothing; their contracts state
+// the facts.
 ghost use Rattle.std.specs.Prelude.{false, ◌≡◌, ◌≤◌, ◌+◌, ◌^◌, List, [], ◌∷◌, Some, None, pos, negsuc};
 ghost use Rattle.std.specs.List.{All, AllPairs, filter};
 ghost use Rattle.std.specs.{Ordering.is_eq, Ordering.is_lt, List.Sorted.IsNonDecreasingBy};
@@ -11,8 +12,9 @@ ghost use Rattle.cs_tempo.specs.Worked.{held_at, stop_at, two_sections};
 ghost use Rattle.cs_tempo.specs.declared.plot.EventAct.TheVariants as act;
 ghost use Rattle.cs_tempo.specs.{Limits.cycles_in, Limits.limit_of, Performable.IsPerformable};
 
-/// The order of a section by its own rule: no statement stands before one that comes before it by beat, p1 and p3, and
-/// those that are equal in these are all that have a turn, in the order of the text.
+/// The order of a section follows its rule: no statement comes before one with an earlier beat, p1 and p3.
+/// Statements that are equal in all three keep the order of the text, and all statements with a turn are
+/// present.
 pub fn turns_are_in_order()
     ensures rising { (section : List ScoreStmt)
         → AllPairs (λ s u. is_lt (order_of u.what s.what) ≡ false) (in_order section) }
@@ -21,8 +23,8 @@ pub fn turns_are_in_order()
         ≡ filter (λ u. is_eq (order_of s.what u.what)) (filter (λ u. has_turn u.what) section) }
 {}
 
-/// The events of a plot stand in the order of their cycles, and each note ends within the plot; the plot
-/// of a score that passes no limit has 2^30 cycles at most.
+/// The events of a plot are in the order of their cycles, and each note ends within the plot. The plot of a
+/// score within all limits has at most 2^30 cycles.
 pub fn plots_are_in_order()
     ensures order { (head : Head) (score : List ScoreStmt) → All IsInRange score
         → IsNonDecreasingBy (λ e. e.cycle) (plot_of head score).events }
@@ -33,14 +35,14 @@ pub fn plots_are_in_order()
         → (plot_of head score).cycles ≤ 2 ^ 30 }
 {}
 
-/// The plot of a score that passes no limit can be performed.
+/// The plot of a score within all limits can be performed.
 pub fn scores_within_limits_are_performable()
     ensures { (head : Head) (score : List ScoreStmt) → All IsInRange score
         → limit_of head score ≡ None → IsPerformable head (plot_of head score) }
 {}
 
-/// The pairing of docs/MEANING.md, computed: of held notes at beats 0, 1 and 2 and stops at beats 2, 3, 4 and 5 the
-/// first stop ends the first note, the next the second, and the one after it the third.
+/// Worked example of docs/MEANING.md: pairing. With held notes at beats 0, 1 and 2 and stops at beats 2, 3, 4
+/// and 5, the first stop ends the first note, the second the second, and the third the third.
 pub fn pairings_worked_by_hand()
     ensures first { ending_stop 1 0 (held_at 0 ∷ [])
         (held_at 1 ∷ stop_at 2 ∷ held_at 2 ∷ stop_at 3 ∷ stop_at 4 ∷ stop_at 5 ∷ []) ≡ Some 2 }
@@ -50,8 +52,9 @@ pub fn pairings_worked_by_hand()
         (stop_at 3 ∷ stop_at 4 ∷ stop_at 5 ∷ []) ≡ Some 4 }
 {}
 
-/// The order of docs/LANGUAGE.md, computed: at one beat tables, then by p1 (a stop's is negative), then by p3 (a held
-/// note's is the number as given); an earlier beat comes first, and what is equal keeps the order of the text.
+/// Worked example of docs/LANGUAGE.md: order. At one beat tables come first; then p1 decides (a stop's is
+/// negative), then p3 (a held note's is the number as written). An earlier beat comes first, and equal
+/// statements keep the order of the text.
 pub fn orders_worked_by_hand()
     ensures at_one_beat { in_order (note 1 0 5 ∷ held_note 2 0 5 ∷ stop 3 0 ∷ table 4 (negsuc 1) [] ∷ [])
         ≡ table 4 (negsuc 1) [] ∷ stop 3 0 ∷ held_note 2 0 5 ∷ note 1 0 5 ∷ [] }
@@ -60,9 +63,12 @@ pub fn orders_worked_by_hand()
     ensures without_turn { in_order (at_line 1 (ScoreWhat.Extend 0) ∷ note 2 0 5 ∷ []) ≡ note 2 0 5 ∷ [] }
 {}
 
-/// The whole plot of a score, computed at 8 frames a second and 4 frames a cycle, so that a beat lasts two cycles:
-/// table 1, a note of one beat and one that a stop ends after two beats; a note without a length; and in a second
-/// section, which begins at the cycle of that stop, a note of a quarter of a beat, which lasts one cycle.
+/// Worked example: the plot of a score with two sections, at 8 frames a second and 4 frames a cycle, so that
+/// a beat lasts two cycles.
+/// The first section has table 1, a note of one beat, a held note that a stop ends after two beats, and a
+/// note without a length.
+/// The second section begins at the cycle of that stop. It has a note of a quarter of a beat, which lasts one
+/// cycle.
 pub fn plot_worked_by_hand()
     ensures { (head : Head) → head.sr ≡ 8 → head.ksmps ≡ 4 → plot_of head two_sections ≡ record {
       events =

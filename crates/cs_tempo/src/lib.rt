@@ -1,11 +1,12 @@
-//! The plot of a piece: when each note of a score starts and ends, in control cycles.
+//! The plot of a piece: the control cycles in which each note of a score starts and ends.
 //!
-//! Its one contract: `schedule` returns the plot of a score (`plot_of`), which can be performed (`IsPerformable`), or
-//! the first limit that the score passes (`limit_of`), or is out of memory. All times are exact (cs_time). How turns
-//! are sorted, stops paired and notes counted may be changed without anyone above noticing.
+//! Its one contract: `schedule` returns the plot of a score (`plot_of`), which can be performed
+//! (`IsPerformable`), the first limit that the score exceeds (`limit_of`), or an out-of-memory error. All
+//! times are exact (cs_time). The way turns are sorted, stops paired and notes counted may be changed without
+//! anyone above noticing.
 //!
-//! To be read in this order: `clock` (the times of a section), `section`, `order`, `pairing`, `fields` and `plot` (the
-//! types), `events`, `limits`, `active`, `scheduling`, `laws`.
+//! In reading order: `clock` (the times of a section), `section`, `order`, `pairing`, `fields` and `plot`
+//! (the types), `events`, `limits`, `active`, `scheduling`, `laws`.
 #![tactic(auto)]
 
 mod active;

@@ -4,7 +4,7 @@ ghost use Rattle.cs_tempo.specs.Limits.{passes_bytes};
 
 use cs_base::{Head, MOST_WAV_BYTES};
 
-/// Whether a score of `cycles` control cycles has more bytes of samples than allowed, at two bytes a sample.
+/// Whether a score of `cycles` control cycles exceeds the limit on bytes of samples. A sample has two bytes.
 pub fn passes_bytes(head: &Head, cycles: u128) -> bool
     requires { cycles < 2 ^ 111 }
     ensures { result ≡ passes_bytes head.now cycles }

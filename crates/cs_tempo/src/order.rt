@@ -1,4 +1,4 @@
-// The order in which a section's tables, notes and stops are taken.
+// The order in which the tables, notes and stops of a section take effect.
 ghost use Rattle.std.specs.Prelude.{◌≡◌, ◌<◌, ◌+◌, length, map, IfOk, OnOk, Option, Some, None, ◌++◌, if◌then◌else◌};
 ghost use Rattle.std.specs.List.{All};
 ghost use Rattle.cs_score.specs.Ranges.{IsInRange, HasRange};
@@ -9,7 +9,7 @@ use cs_base::OutOfMemory;
 use cs_score::{ScoreStmt, ScoreWhat};
 use std::alloc::Global;
 
-/// What a turn is sorted by: its beat, its p1 and p3, and its index in the section.
+/// The key by which turns are sorted: the beat, p1 and p3, and the index in the section.
 #[derive(Clone, Copy, PartialEq, Eq, PartialOrd, Ord)]
 pub struct SortKey {
     pub at: u64,
@@ -18,10 +18,10 @@ pub struct SortKey {
     pub index: usize,
 }
 
-// Before every p1: tables stand first.
+// The p1 of a table in the sort key. It is below every other p1, so that tables come first.
 const TABLE: i32 = -32_768;
 
-/// The statements of a section that have a turn, in the order of their turns.
+/// Returns the statements of a section that have a turn, in the order of their turns.
 pub fn in_order(alloc: Global, section: &[ScoreStmt]) -> Result<Vec<&ScoreStmt>, OutOfMemory>
     requires { All IsInRange section.now }
     ensures { IfOk result (λ order. map (λ s. s.now) order.items ≡ in_order section.now) }
@@ -65,7 +65,7 @@ fn push_turn(turns: &mut Vec<SortKey>, what: &ScoreWhat, index: usize) -> Result
     Ok(())
 }
 
-// The turn of the statement at an index, if it has one.
+// The sort key of the statement at an index, if it has a turn.
 fn turn_of(what: &ScoreWhat, index: usize) -> Option<SortKey>
     requires { HasRange what.now }
     ensures { result ≡ (if has_turn what.now then Some (turn_of index what.now) else None) }

@@ -11,7 +11,8 @@ use std::alloc::Global;
 use std::collections::HashMap;
 use std::marker::Model;
 
-/// An instrument's stops, how many of them have passed, and how many of its held notes sound.
+/// The stops of one instrument, the number of stops that have passed, and the number of its held notes that
+/// sound.
 #[derive(Drop)]
 pub struct Stops {
     beats: Vec<u64>,
@@ -53,7 +54,7 @@ impl Stops {
         Ok(())
     }
 
-    // A held note starts: the beat of the stop that ends it.
+    // Handles the start of a held note. Returns the beat of the stop that ends it, or `None` if no stop does.
     fn hold(&mut self) -> Option<u64>
         requires { self.old.sounding < 2 ^ 63 }
         ensures stop { result ≡ slice_get self.old.stops self.old.sounding }
@@ -65,7 +66,7 @@ impl Stops {
         stop
     }
 
-    // A stop comes.
+    // Handles a stop.
     fn pass(&mut self)
         ensures stops { self.new.stops ≡ drop 1 self.old.stops }
         ensures sounding { self.new.sounding ≡ self.old.sounding - 1 }
@@ -75,7 +76,7 @@ impl Stops {
     }
 }
 
-/// The stops of the turns of a section.
+/// Collects the stops of the turns of a section, by instrument.
 pub fn stops_by_instrument(
     alloc: Global,
     order: &[&ScoreStmt],
@@ -106,7 +107,7 @@ fn add_own_stop(
     }
 }
 
-/// The turn of a statement comes: the beat of the stop that ends it, where it is a held note.
+/// Handles the turn of a statement. If it is a held note, returns the beat of the stop that ends it.
 pub fn take_turn(queues: &mut StopsByInstrument, what: &ScoreWhat) -> Option<u64>
     requires { (n : ℕ) (queue : Queue) → get nat_eq queues.old n ≡ Some queue → queue.sounding < 2 ^ 63 }
     ensures stop { (stops : ℕ → List ℕ) (sounding : ℕ → ℕ)

@@ -1,4 +1,4 @@
-// The plot of a score, or the first limit that it passes.
+// The plot of a score, or the first limit that it exceeds.
 ghost use Rattle.std.specs.Prelude.{◌≡◌, ◌≤◌, ◌<◌, ◌+◌, ◌^◌, ◌++◌, [], map, sum, IfOk, OnOk, Some, None};
 ghost use Rattle.std.specs.List.{All};
 ghost use Rattle.cs_base.specs.declared.limit.LimitHit.{LimitHit};
@@ -18,8 +18,9 @@ use cs_base::{Head, Limit, LimitHit, Or, OutOfMemory};
 use cs_score::{ScoreStmt, ScoreStmts};
 use std::alloc::Global;
 
-/// The plot of a score as it is read, or the first limit that it passes: that on the bytes of the sound file, else
-/// that on notes at once. The limits on table numbers and on statements were found when it was read.
+/// Returns the plot of a score that was read, or the first limit that it exceeds: first the limit on the
+/// bytes of the sound file, then the limit on simultaneous notes. The limits on table numbers and on
+/// statements were checked as it was read.
 pub fn schedule(alloc: Global, score: &ScoreStmts, head: &Head) -> Result<Plot, Or<LimitHit>>
     requires range { All IsInRange score.now }
     requires read { limit_of_score score.now ≡ None }
@@ -31,7 +32,7 @@ pub fn schedule(alloc: Global, score: &ScoreStmts, head: &Head) -> Result<Plot, 
     plot_sections(alloc, head, score.as_slice())
 }
 
-// The plot of statements, or the first limit that they pass.
+// Returns the plot of statements, or the first limit that they exceed.
 fn plot_sections(alloc: Global, head: &Head, score: &[ScoreStmt]) -> Result<Plot, Or<LimitHit>>
     requires { All IsInRange score.now }
     ensures plot { IfOk result (λ plot. plot ≡ plot_of_sections head.now (sections_of score.now)) }
@@ -53,7 +54,7 @@ fn plot_sections(alloc: Global, head: &Head, score: &[ScoreStmt]) -> Result<Plot
     }
 }
 
-// The control cycles of all sections of a score.
+// The total number of control cycles of all sections of a score.
 fn total(alloc: Global, head: &Head, score: &[ScoreStmt]) -> Result<u128, OutOfMemory>
     requires { All IsInRange score.now }
     ensures sum { IfOk result (λ n. n ≡ sum (map (length_of head.now) (sections_of score.now))) }
@@ -80,7 +81,7 @@ fn section_length(alloc: Global, head: &Head, section: &[ScoreStmt]) -> Result<u
     Ok(length_of(&clock, section))
 }
 
-// The events of the sections of a score, which follow one another from cycle 0 on.
+// The events of all sections of a score, which follow one another from cycle 0 on.
 fn events_of(alloc: Global, head: &Head, score: &[ScoreStmt]) -> Result<Vec<Event>, OutOfMemory>
     requires range { All IsInRange score.now }
     requires short { sum (map (length_of head.now) (sections_of score.now)) ≤ 2 ^ 30 }
@@ -99,7 +100,8 @@ fn events_of(alloc: Global, head: &Head, score: &[ScoreStmt]) -> Result<Vec<Even
     }
 }
 
-// Adds the events of a section that begins at cycle `offset`. Returns how many cycles it lasts.
+// Adds the events of a section that begins at cycle `offset`. Returns the number of cycles that the section
+// lasts.
 fn section_events(
     alloc: Global,
     head: &Head,

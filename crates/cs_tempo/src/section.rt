@@ -1,4 +1,4 @@
-// The sections of a score: where each ends, its tempo, and its length in control cycles.
+// The sections of a score: the end of each, its tempo, and its length in control cycles.
 ghost use Rattle.std.specs.Prelude.{◌≡◌, ◌≤◌, ◌<◌, ◌+◌, ◌^◌, ◌∷◌, [], length, take, drop};
 ghost use Rattle.std.specs.List.{All};
 ghost use Rattle.cs_score.specs.Ranges.{IsInRange, HasRange, beats_end};
@@ -8,7 +8,7 @@ use crate::clock::Clock;
 use cs_score::{ScoreStmt, ScoreWhat, TempoPoint};
 use std::cmp::max;
 
-/// The statements behind one.
+/// The statements after the one at index `end`.
 pub fn behind(score: &[ScoreStmt], end: usize) -> &[ScoreStmt]
     requires { end < length score.now }
     ensures { result.now ≡ drop (end + 1) score.now }
@@ -16,7 +16,7 @@ pub fn behind(score: &[ScoreStmt], end: usize) -> &[ScoreStmt]
     &score[end + 1..]
 }
 
-/// The number of statements before the first `s`, or of all.
+/// The number of statements before the first `s`, or of all statements if there is no `s`.
 pub fn section_end(score: &[ScoreStmt]) -> usize
     ensures within { result ≤ length score.now }
     ensures ended { result < length score.now
@@ -31,7 +31,7 @@ pub fn section_end(score: &[ScoreStmt]) -> usize
     score.len()
 }
 
-/// The points of the last tempo statement of a section; none where it has none.
+/// The points of the last tempo statement of a section. Empty if the section has none.
 pub fn tempo_of(section: &[ScoreStmt]) -> &[TempoPoint]
     requires { All IsInRange section.now }
     ensures { result.now ≡ tempo_of section.now }
@@ -43,7 +43,7 @@ pub fn tempo_of(section: &[ScoreStmt]) -> &[TempoPoint]
     tempo
 }
 
-// The points of a tempo statement, or the tempo so far.
+// The points of a tempo statement. For any other statement, the tempo so far.
 fn points_or<'s>(what: &'s ScoreWhat, tempo: &'s [TempoPoint]) -> &'s [TempoPoint]
     requires { HasRange what.now }
     ensures { result.now ≡ or_else (own_points what.now) tempo.now }
@@ -54,7 +54,7 @@ fn points_or<'s>(what: &'s ScoreWhat, tempo: &'s [TempoPoint]) -> &'s [TempoPoin
     }
 }
 
-/// The length of a section, in control cycles.
+/// The length of a section in control cycles.
 #[tactic(auto, unfolding(crate::specs::Sections::length_of))]
 pub fn length_of(clock: &Clock, section: &[ScoreStmt]) -> u64
     requires range { All IsInRange section.now }
@@ -69,7 +69,7 @@ pub fn length_of(clock: &Clock, section: &[ScoreStmt]) -> u64
     length
 }
 
-// How many cycles a statement makes its section last at least.
+// The smallest number of cycles that a section with this statement can last.
 fn reach_of(clock: &Clock, what: &ScoreWhat) -> u64
     requires { HasRange what.now }
     ensures reach { result ≡ reach_of clock.now.head clock.now.tempo what.now }
@@ -85,7 +85,8 @@ fn reach_of(clock: &Clock, what: &ScoreWhat) -> u64
     }
 }
 
-/// The end of a note whose length is 0 or more: with a length above 0 it lasts at least one cycle.
+/// The cycle in which a note ends whose length is 0 or more. If its length is above 0, it lasts at least one
+/// cycle.
 pub fn end_of(clock: &Clock, at: u64, length: u64) -> u64
     requires { at + length < beats_end }
     ensures end { result ≡ end_of clock.now.head clock.now.tempo at length }

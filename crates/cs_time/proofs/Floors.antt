@@ -1,4 +1,4 @@
--- The time along a ramp as its formula with a sign.
+-- The time along a ramp equals its formula with signed numbers.
 use Rattle.std.proofs.Common.{◌≡◌, ℕ, ℤ, zero, suc, ◌+◌, ◌-◌, ◌*◌, ◌/◌, ◌<◌, ◌≤◌, pos, neg_ℤ, ◌+ℤ◌, ◌-ℤ◌, ◌*ℤ◌}
 use Rattle.std.proofs.Common.{unsigned_abs, arith, refl, ap, sym, ◌∙◌, ⊎_elim}
 use Rattle.std.specs.Int.{int_div_euclid}
@@ -20,7 +20,7 @@ times_down : (f l y : ℕ) → l ≤ f → (pos l -ℤ pos f) *ℤ pos y ≡ neg
 times_down f l y h = let e : pos l -ℤ pos f ≡ neg_ℤ (pos (f - l)) =
     omega (arith, ints) in ap (λ z. z *ℤ pos y) e ∙ neg_times (f - l) y
 
--- a quotient of n + 1 rounded up is one more than that of n rounded down
+-- n + 1 divided and rounded up is one more than n divided and rounded down
 same_quotient : (d u q n : ℕ) → 0 < d → suc n ≤ d * u → d * u < suc n + d → d * q ≤ n → n < d * q + d → u ≡ q + 1
 same_quotient d u q n h a b c e =
     ⊎_elim
@@ -30,7 +30,7 @@ same_quotient d u q n h a b c e =
     mul-le d (q + 2) d u (omega arith) (omega arith) in absurd (omega (arith, m)))
     (λ (g : u ≤ q + 1). omega arith) (cases_lt (q + 1) u)) (cases_lt u (q + 1))
 
--- what is rounded up and taken away is what falls and is rounded down
+-- subtracting a quotient rounded up is the same as adding the negative quotient rounded down
 up_of_more : (n d : ℕ) → 0 < d → rounded_up (suc n) d ≡ n / d + 1
 up_of_more n d h =
     let a = up_least (suc n) d h in
@@ -79,7 +79,7 @@ ramp_is f l s x low low' some inside =
     ∙ ap (λ z. pos (f * x / 1000000) +ℤ floor_div z (pos (2 * s * 1000000))) (sym (times_up f l (x * x) h)))
     (cases_lt l f)
 
--- the formula is the time in parts, at the beginning of a ramp and later
+-- the formula equals the time in parts, at the beginning of a ramp and later
 abbrev pub formula : ℕ → ℕ → ℕ → ℕ → ℤ
 formula f l s x = pos (f * x / 1000000) +ℤ floor_div ((pos l -ℤ pos f) *ℤ pos (x * x)) (pos (2 * s * 1000000))
 

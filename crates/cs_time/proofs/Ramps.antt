@@ -6,20 +6,20 @@ use Rattle.std.proofs.lemmas.Nat.{le-div, mul-le, mod_below, div_below, div-add-
 use Rattle.std.proofs.lemmas.{Bool.cases_lt, Bool.Decides.nat_tests, Bool.Decides.leb_tells}
 use Rattle.cs_time.specs.inner.Ramps.{ramp_in_parts, rounded_up}
 
--- a quotient grows with its number
+-- a quotient grows with its dividend
 pub div_grows : (a b d : ℕ) → a ≤ b → a / d ≤ b / d
 div_grows a b zero h = omega arith
 div_grows a b (suc d) h = le-div (a / suc d) b (suc d) (omega arith) (omega (arith, mul-div-le a (suc d)))
 
--- how a quotient stands to its number
+-- a quotient times its divisor is at most the dividend
 pub quotient_below : (a d : ℕ) → d * (a / d) ≤ a
 quotient_below a d = mul-div-le a d
 
 pub quotient_above : (a d : ℕ) → 0 < d → a < d * (a / d) + d
 quotient_above a d h = omega (arith, div-add-mod' a d, mod_below a d h)
 
--- The heart: of a falling beat D + e .. e at two places x and x + k of a ramp of T half places, what is lost by
--- rounding is less than what the k places take, each at least M.
+-- The main inequality. A beat's duration falls from D + e to e along a ramp of T half places. Between the
+-- places x and x + k, rounding loses less than the duration of the k places, each of which takes at least M.
 heart : (M T D e x k u qx qy cx cy : ℕ) → M ≤ e → 1 ≤ k → T ≡ x + (x + k) + u → M * qx ≤ (D + e) * x →
     (D + e) * (x + k) < M * qy + M → D * (x * x) ≤ T * M * cx → T * M * cy < D * ((x + k) * (x + k)) + T * M
     → qx + cy ≤ qy + cx
@@ -35,7 +35,7 @@ heart M T D e x k u qx qy cx cy low some halves below above up down =
     absurd (omega (arith, a, b, c, d', f)))
     (λ (h : qx + cy ≤ qy + cx). h) (cases_lt (qy + cx) (qx + cy))
 
--- what a rise adds
+-- the time that a rise adds is small
 pub longer_small : (r s x : ℕ) → 1 ≤ x → x ≤ s → 2000000 * (r * (x * x) / (2 * s * 1000000)) ≤ r * x
 longer_small r s x some inside =
     let q : ℕ = r * (x * x) / (2 * s * 1000000) in
@@ -44,7 +44,7 @@ longer_small r s x some inside =
     let b : r * x * x ≤ r * x * s = mul-le-mul_left (r * x) inside in
     le_of_mul-le-mul_left {k = s} (omega (arith, a, b)) (omega arith)
 
--- how a quotient rounded up stands to its number
+-- a quotient rounded up, times its divisor, is at least the dividend
 pub up_least : (n d : ℕ) → 0 < d → n ≤ d * rounded_up n d
 up_least n d h = omega (arith, quotient_above (n + (d - 1)) d h)
 
@@ -69,7 +69,7 @@ paid D l s x k low some more inside =
     (up_least (D * (x * x)) (2 * s * 1000000) (omega arith))
     (up_most (D * ((x + k) * (x + k))) (2 * s * 1000000) (omega arith))
 
--- what a fall takes between two places is at most what the beats between them last
+-- the time that a fall takes away between two places is at most the duration of the beats between them
 pub shorter_pays : (f l s x y : ℕ) → 1000000 ≤ l → l ≤ f → 1 ≤ s → x ≤ y → y ≤ s →
     f * x / 1000000 + rounded_up ((f - l) * (y * y)) (2 * s * 1000000)
     ≤ f * y / 1000000 + rounded_up ((f - l) * (x * x)) (2 * s * 1000000)
@@ -129,13 +129,13 @@ ramp_small f l s x fast fast' inside =
     (λ t. rw t.0 (let m : f * x ≤ 60000000000 * x = mul-le f x 60000000000 x fast (omega arith) in omega (arith, a, m)))
     (leb_tells f l)) (zero_or_more x)
 
--- with beats of one length
+-- the time with beats of a constant duration is small
 pub steady_small : (f x : ℕ) → f ≤ 60000000000 → f * x / 1000000 ≤ 60000 * x
 steady_small f x fast =
     let a = quotient_below (f * x) 1000000 in
     let m : f * x ≤ 60000000000 * x = mul-le f x 60000000000 x fast (omega arith) in omega (arith, a, m)
 
--- a ramp of a fall takes no more than the beats would last
+-- a fall takes away no more time than the beats would last
 pub shorter_within : (f l s x : ℕ) → 1000000 ≤ l → l ≤ f → 1 ≤ x → x ≤ s →
     rounded_up ((f - l) * (x * x)) (2 * s * 1000000) ≤ f * x / 1000000
 shorter_within f l s x low falls some inside =

@@ -1,4 +1,4 @@
--- Time along the points of a tempo: it never falls, and stays small.
+-- Time along the points of a tempo never falls, and stays small.
 use Rattle.std.proofs.Common.{◌≡◌, ℕ, ◌+◌, ◌-◌, ◌*◌, ◌/◌, ◌^◌, ◌<◌, ◌≤◌, min, List, [], ◌∷◌, drop, length, get_or}
 use Rattle.std.proofs.{Common.arith, Common.refl, Common.subst, Math.Nat.mul-le-mul_left, Math.Nat.div-le_of_le-mul}
 use Rattle.std.proofs.lemmas.{List.drop_more, Nat.le-div}
@@ -52,7 +52,7 @@ along_grows p [] x y a r up = omega (arith, last_grows p x y up)
 along_grows p (q ∷ rest) x y a r up =
     omega (arith, part_grows p q rest x y a r.1 r.0 up, along_grows q rest x y r.1 r.2 up)
 
--- without points
+-- the point of a tempo without points is in range
 sixty : IsTempoPoint (record { beat = 0; tempo = 60000000 })
 sixty = record { beat = omega arith; slow = omega arith; fast = omega arith }
 
@@ -72,7 +72,7 @@ cycles_grow x y sr ksmps up =
     div_grows (2 * x * sr + ksmps * 10 ^ 9) (2 * y * sr + ksmps * 10 ^ 9) (2 * ksmps * 10 ^ 9)
     (omega (arith, mul-le-mul_left sr up))
 
--- the first part of a time
+-- the first part of a time, along one point
 pub first_of_one : (ps : List TempoPoint) (d : TempoPoint) (beat r : ℕ) → 1 ≤ length ps → length ps < 2 →
     r ≡ beat_length (get_or ps 0 d).tempo * (beat - (get_or ps 0 d).beat) / 1000000
     → time_along ps beat ≡ r + time_along (drop 1 ps) beat
@@ -90,7 +90,7 @@ first_of_more [] d beat r some e = absurd (omega arith)
 first_of_more (p ∷ []) d beat r some e = absurd (omega arith)
 first_of_more (p ∷ q ∷ rest) d beat r some e = rw e refl
 
--- nothing passes before a beat along points that come after it
+-- no time passes before a beat along points that come after it
 pub none_left : (ps : List TempoPoint) (k : ℕ) (d : TempoPoint) (beat : ℕ) → k < length ps → Rises (drop k ps) →
     beat ≤ (get_or ps k d).beat → time_along (drop k ps) beat ≡ 0
 none_left ps k d beat some r early =
@@ -107,12 +107,12 @@ unfolding time_along
 rises_small [] beat r = omega arith
 rises_small (p ∷ later) beat r = omega (arith, along_small p later beat r.0 r.1)
 
--- where a tempo has points, the time of a beat is that along them
+-- if a tempo has points, the time of a beat is the time along them
 pub along_is : (ps : List TempoPoint) (beat : ℕ) → 0 < length ps → time_along ps beat ≡ time_of ps beat
 along_is [] beat some = absurd (omega arith)
 along_is (p ∷ later) beat some = refl
 
--- without points a beat lasts a second
+-- without points, a beat lasts one second
 pub sixty_time : (beat : ℕ) → 1000000000 * beat / 1000000 ≡ time_of [] beat
 unfolding time_along part_of beat_length
 sixty_time beat = let e : beat - 0 ≡ beat = omega arith in rw e (omega arith)
@@ -125,7 +125,7 @@ pub rises_behind : (ps : List TempoPoint) → Rises ps → Rises (drop 1 ps)
 rises_behind [] r = tt
 rises_behind (p ∷ later) r = rises_on p later r
 
--- the first two points of some that rise
+-- the first two of several ascending points are in range
 pub first_point : (ps : List TempoPoint) (d : TempoPoint) → 1 ≤ length ps → Rises ps → IsTempoPoint (get_or ps 0 d)
 first_point [] d some r = absurd (omega arith)
 first_point (p ∷ later) d some r = r.0

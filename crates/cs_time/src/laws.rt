@@ -1,25 +1,27 @@
-// What holds of times for every tempo: calls that do nothing, whose contracts are the laws.
+// Facts about times that hold for every tempo. These functions do nothing; their contracts state the facts.
 ghost use Rattle.std.specs.Prelude.{◌≡◌, ◌≤◌, ◌+◌, ◌*◌, ◌/◌, ℕ, List, [], ◌∷◌, pos, ◌+ℤ◌, ◌-ℤ◌, ◌*ℤ◌};
 ghost use Rattle.cs_base.specs.Numbers.{floor_div};
 ghost use Rattle.cs_score.specs.declared.statement.TempoPoint.{TempoPoint};
 ghost use Rattle.cs_time.specs.Time.{IsTempo, ramp_time, time_of, cycle_of, seconds_of};
 
-/// The time of a beat never falls as the beat grows, nor does the cycle of a time; a beat lasts a minute at most.
+/// The time of a beat never falls as the beat grows, nor does the cycle of a time. A beat lasts at most a
+/// minute.
 pub fn time_never_falls()
     ensures time { (tempo : List TempoPoint) (a b : ℕ) → IsTempo tempo → a ≤ b → time_of tempo a ≤ time_of tempo b }
     ensures cycle { (a b sr ksmps : ℕ) → a ≤ b → cycle_of a sr ksmps ≤ cycle_of b sr ksmps }
     ensures small { (tempo : List TempoPoint) (beat : ℕ) → IsTempo tempo → time_of tempo beat ≤ 60000 * beat }
 {}
 
-/// The time along a ramp is its formula over whole numbers with a sign, each part rounded down: that is never below 0.
+/// The time along a ramp is its formula over signed integers, each part rounded down. The result is never
+/// negative.
 pub fn ramps_are_rounded_down()
     ensures { (first last span x : ℕ) → 1000000 ≤ first → 1000000 ≤ last → x ≤ span
         → pos (ramp_time first last span x) ≡ pos (first * x / 1000000)
         +ℤ floor_div ((pos last -ℤ pos first) *ℤ pos (x * x)) (pos (2 * span * 1000000)) }
 {}
 
-/// Times of docs/MEANING.md, computed for `t 0 60 4 120`: beats 2 and 4, their cycles at 8 frames a second and 4
-/// frames a cycle, and the seconds that an instrument sees.
+/// Worked examples of docs/MEANING.md for `t 0 60 4 120`: the times of beats 2 and 4, and the seconds that an
+/// instrument sees. The cycles of both beats are at 8 frames a second and 4 frames a cycle.
 pub fn times_worked_by_hand()
     ensures middle { time_of (record { beat = 0; tempo = 60000000 }
         ∷ record { beat = 4000000; tempo = 120000000 } ∷ []) 2000000 ≡ 1750000000 }

@@ -1,10 +1,11 @@
-//! How long beats take, in nanoseconds, and the control cycle of a time.
+//! Converts beats to times in nanoseconds, and times to control cycles.
 //!
-//! Its one contract: `beat_time` is the time of a beat along the points of a tempo, as specs/Time says (`time_of`), and
-//! `cycle_of` the control cycle of a time. All are exact whole numbers, each rounded once. How the time along a ramp is
-//! reckoned without numbers below 0 may be changed without anyone above noticing.
+//! Its one contract (specs/Time.antt): `beat_time` returns the time of a beat along the points of a tempo
+//! (`time_of`), and `cycle_of` the control cycle of a time. All results are integers, each rounded once. The
+//! way the time along a ramp is computed without negative numbers may be changed without anyone above
+//! noticing.
 //!
-//! To be read in this order: `time`, `laws` (time never falls; worked examples).
+//! In reading order: `time`, `laws` (time never falls; worked examples).
 #![tactic(auto)]
 
 mod laws;

@@ -1,4 +1,4 @@
-// The time that beats take along a tempo, and the control cycle of a time.
+// The time of a beat along a tempo, and the control cycle of a time.
 ghost use Rattle.std.specs.Prelude.{◌≡◌, ◌≤◌, ◌<◌, ◌*◌, ◌+◌, ◌-◌, ◌^◌, ◌/◌, drop, pos};
 ghost use Rattle.cs_base.specs.{Limits.greatest_ksmps, Limits.greatest_sr, Numbers.IsRaw};
 ghost use Rattle.cs_score.specs.{Ranges.beats_end, declared.statement.TempoPoint.TempoPoint};
@@ -8,7 +8,8 @@ ghost use Rattle.cs_time.specs.Time.{beat_length, ramp_time, time_along, time_of
 use cs_base::ONE;
 use cs_score::TempoPoint;
 
-/// The control cycle of a time in nanoseconds, rounded half up, at `sr` frames a second and `ksmps` frames a cycle.
+/// The control cycle of a time in nanoseconds, rounded half up, at `sr` frames a second and `ksmps` frames a
+/// cycle.
 #[tactic(auto, unfolding(crate::specs::Time::cycle_of))]
 pub fn cycle_of(ns: u64, sr: u32, ksmps: u32) -> u64
     requires sr { (1 ≤ sr) × (sr ≤ greatest_sr) }
@@ -19,7 +20,7 @@ pub fn cycle_of(ns: u64, sr: u32, ksmps: u32) -> u64
     ((2 * u128::from(ns) * u128::from(sr) + cycle) / (2 * u128::from(ksmps) * 1_000_000_000)) as u64
 }
 
-/// Nanoseconds in 65,536ths of a second, rounded down.
+/// A time in 65,536ths of a second, rounded down. `ns` is in nanoseconds.
 #[tactic(auto, unfolding(crate::specs::Time::seconds_of))]
 pub fn seconds_of(ns: u64) -> i64
     requires { ns ≤ 60000 * beats_end }
@@ -29,8 +30,8 @@ pub fn seconds_of(ns: u64) -> i64
     (u128::from(ns) * ONE as u128 / 1_000_000_000) as i64
 }
 
-/// The time of a beat along a tempo, in nanoseconds from its first point. No point lies before the one before it; no
-/// points at all are 60 beats a minute.
+/// The time of a beat along a tempo, in nanoseconds from the tempo's first point. The points are in ascending
+/// order of beats. Without any points the tempo is 60 beats a minute.
 pub fn beat_time(points: &[TempoPoint], beat: u64) -> u64
     requires rising { Rises points.now }
     requires beat { beat < beats_end }
@@ -43,7 +44,7 @@ pub fn beat_time(points: &[TempoPoint], beat: u64) -> u64
     }
 }
 
-// The time of a beat along points that rise.
+// The time of a beat along points in ascending order.
 fn time_along(points: &[TempoPoint], beat: u64) -> u64
     requires rising { Rises points.now }
     requires beat { beat < beats_end }
@@ -59,7 +60,8 @@ fn time_along(points: &[TempoPoint], beat: u64) -> u64
     time
 }
 
-/// What of the time before a beat lies between the first point and the next, or after the last.
+/// The part of the time before a beat that is spent between the first point and the next, or after the first
+/// if it is the last.
 pub fn first_part(points: &[TempoPoint], beat: u64) -> u64
     requires rising { Rises points.now }
     requires beat { beat < beats_end }
@@ -77,7 +79,7 @@ pub fn first_part(points: &[TempoPoint], beat: u64) -> u64
     }
 }
 
-// How long a beat lasts, in nanoseconds.
+// The duration of a beat in nanoseconds.
 #[tactic(auto, unfolding(crate::specs::Time::beat_length))]
 fn beat_length(tempo: u64) -> u64
     requires { (1000000 ≤ tempo) × (tempo ≤ 60000000000) }
@@ -87,7 +89,7 @@ fn beat_length(tempo: u64) -> u64
     60_000_000_000_000_000 / tempo
 }
 
-// The time of `x` millionths of a beat, where a beat lasts `length` nanoseconds.
+// The duration of `x` millionths of a beat, if a beat lasts `length` nanoseconds.
 fn steady_time(length: u64, x: u64) -> u64
     requires length { length ≤ 60000000000 }
     requires x { x < beats_end }
@@ -96,7 +98,8 @@ fn steady_time(length: u64, x: u64) -> u64
     (u128::from(length) * u128::from(x) / 1_000_000) as u64
 }
 
-// The time at `x` millionths into a ramp of `span` millionths, along which a beat's length goes from `first` to `last`.
+// The time at `x` millionths into a ramp of `span` millionths, along which a beat's duration goes from
+// `first` to `last`.
 fn ramp_time(first: u64, last: u64, span: u64, x: u64) -> u64
     requires first { (1000000 ≤ first) × (first ≤ 60000000000) }
     requires last { (1000000 ≤ last) × (last ≤ 60000000000) }
@@ -115,7 +118,7 @@ fn ramp_time(first: u64, last: u64, span: u64, x: u64) -> u64
     }
 }
 
-// How much a ramp's beats that grow longer by `rise` add at `x` millionths, rounded down.
+// The time that a ramp adds at `x` millionths if its beats grow longer by `rise`, rounded down.
 #[tactic(auto, using(crate::proofs::Ramps::longer_small))]
 fn longer(rise: u64, span: u64, x: u64) -> u64
     requires rise { rise ≤ 60000000000 }
@@ -127,7 +130,7 @@ fn longer(rise: u64, span: u64, x: u64) -> u64
     (change(rise, x) / half_places(span)) as u64
 }
 
-// How much a ramp's beats that grow shorter by `fall` take away at `x` millionths, rounded up.
+// The time that a ramp takes away at `x` millionths if its beats grow shorter by `fall`, rounded up.
 fn shorter(fall: u64, span: u64, x: u64) -> u64
     requires fall { fall ≤ 60000000000 }
     requires span { span < beats_end }

@@ -1,4 +1,4 @@
--- The statements that are left of a text from a place on.
+-- The statements that remain in a text from a place on.
 use Rattle.std.specs.Prelude.{ℕ, drop, List}
 use Rattle.cs_base.specs.Lines.{Excerpt, lines_from}
 use Rattle.cs_score.specs.{declared.row.Row.Row, Rows.rows_in}

@@ -1,8 +1,8 @@
--- What contracts see of an instrument's pairing.
+-- The view of an instrument's pairing in contracts.
 use Rattle.std.specs.Prelude.{ℕ, List}
 
--- an instrument at an index in the order: the beats of its stops to come, and how many of its held
--- notes sound
+-- the pairing of an instrument between two turns: the beats of its remaining stops, and the number of its
+-- held notes that sound
 pub record Queue : Type 0 where
   pub stops : List ℕ
   pub sounding : ℕ

@@ -1,6 +1,6 @@
 use Rattle.std.proofs.Common.{◌≡◌, ◌<◌, ◌-◌, ◌++◌, min, length, take, drop, get_or, arith, ap, ◌∙◌, subst}
 use Rattle.std.proofs.lemmas.List.{get_or_default, take_rest, append_assoc}
-use Rattle.cs_fields.specs.declared.field.Field.{Field}
+use Rattle.cs_score.specs.declared.field.Field.{Field}
 use Rattle.cs_score.specs.inner.State.{filled, filled_one}
 use Rattle.cs_score.proofs.{Pairs.empty, Carried.filled_more, Carried.filled_end, Carried.now_at}
 use Rattle.cs_score.proofs.carry.filled.Goals as goal

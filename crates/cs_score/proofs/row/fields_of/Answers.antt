@@ -1,6 +1,6 @@
 use Rattle.std.proofs.Common.{◌≡◌, ◌+◌, ◌-◌, drop, take, length, arith, ap, sym, ◌∙◌}
 use Rattle.std.proofs.lemmas.List.{take_rest, length-take}
-use Rattle.cs_fields.specs.Fields.{field_of}
+use Rattle.cs_score.specs.Fields.{field_of}
 use Rattle.cs_score.proofs.Words.{word_read, word_len}
 use Rattle.cs_score.proofs.row.fields_of.Goals as goal
 

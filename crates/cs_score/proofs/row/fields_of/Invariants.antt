@@ -1,5 +1,5 @@
 use Rattle.std.proofs.Common.{length, ◌-◌, ◌≡◌, ◌≤◌, ◌++◌, drop, map}
-use Rattle.cs_fields.specs.Fields.{field_of}
+use Rattle.cs_score.specs.Fields.{field_of}
 use Rattle.cs_score.specs.Rows.{words}
 use Rattle.cs_score.proofs.row.fields_of.Given as goal
 

@@ -1,21 +1,21 @@
-// What a field says: a number, a mark, or neither.
+// The meaning of a field: a number, a mark, or neither.
 ghost use Rattle.std.specs.Prelude.{◌≡◌, true, ◌==◌, ◌≤ℤ◌, pos, neg_ℤ, codes};
 ghost use Rattle.std.specs.List.{list_any};
 ghost use Rattle.cs_base.specs.{Lines.begins, declared.decimal.Decimal.Decimal};
-ghost use Rattle.cs_fields.specs.Fields.{field_of, is_foreign, is_only, number_field, number_of, signed, signed_of};
-ghost use Rattle.cs_fields.specs.Fields.{caret_field, raw_of, whole_of, size_of, is_whole, is_below_zero};
-ghost use Rattle.cs_fields.specs.Fields.{is_negative_time, is_same_instrument};
+ghost use Rattle.cs_score.specs.Fields.{field_of, is_foreign, is_only, number_field, number_of, signed, signed_of};
+ghost use Rattle.cs_score.specs.Fields.{caret_field, raw_of, whole_of, size_of, is_whole, is_below_zero};
+ghost use Rattle.cs_score.specs.Fields.{is_negative_time, is_same_instrument};
 
 use cs_base::{Decimal, Num, ScoreKind, read_decimal};
 
-/// A number as a field writes it: a decimal, and whether a minus stands before it.
+/// A number as a field writes it: a decimal, and whether it has a minus sign.
 #[derive(Clone, Copy)]
 pub struct Signed {
     pub minus: bool,
     pub size: Decimal,
 }
 
-/// p1 of an `i` statement: the number of an instrument, and whether a minus makes the statement a stop.
+/// p1 of an `i` statement: the number of an instrument, and whether a minus sign makes the statement a stop.
 #[derive(Clone, Copy, PartialEq, Eq)]
 pub struct InstrumentNumber {
     pub number: u32,
@@ -23,7 +23,8 @@ pub struct InstrumentNumber {
 }
 
 impl InstrumentNumber {
-    /// Whether a statement has the p1 of the one before, and so takes from it the fields that are left to it.
+    /// Whether a statement has the same p1 as the statement before, so that it continues it and carries the
+    /// fields it omits.
     pub fn is_same(self, before: InstrumentNumber) -> bool
         ensures { result ≡ is_same_instrument self before }
     {
@@ -32,7 +33,7 @@ impl InstrumentNumber {
 }
 
 impl Signed {
-    /// The number: the sign is applied to the rounded size.
+    /// The number's value: the decimal is rounded, then the sign is applied.
     pub fn num(self) -> Num
         ensures value { result ≡ raw_of self }
         ensures below { self.minus ≡ true → result ≤ℤ pos 0 }
@@ -44,7 +45,7 @@ impl Signed {
         }
     }
 
-    /// The whole part, with the sign.
+    /// The integer part, with the sign.
     pub fn whole(self) -> i64
         ensures { result ≡ whole_of self }
     {
@@ -52,28 +53,28 @@ impl Signed {
         if self.minus { -whole } else { whole }
     }
 
-    /// The size in millionths; digits past the sixth are dropped.
+    /// The absolute value in millionths. Digits after the sixth are dropped.
     pub fn millionths(self) -> u64
         ensures { result ≡ size_of self }
     {
         self.size.millionths()
     }
 
-    /// Whether no digit but 0 stands after the point.
+    /// Whether all digits after the decimal point are 0.
     pub fn is_whole(self) -> bool
         ensures { result ≡ is_whole self }
     {
         self.size.billionths == 0
     }
 
-    /// Whether the number is below 0.
+    /// Whether the number is below 0, by all nine decimal digits.
     pub fn is_below_zero(self) -> bool
         ensures { result ≡ is_below_zero self }
     {
         self.minus && (self.size.whole > 0 || self.size.billionths > 0)
     }
 
-    /// Whether the number, as a time, is below 0: a time keeps six digits.
+    /// Whether the number is below 0 as a time, which has only six decimal digits.
     pub fn is_negative_time(self) -> bool
         ensures { result ≡ is_negative_time self }
     {
@@ -88,25 +89,25 @@ fn negated(n: Num) -> Num
     Num::of_raw(-n.raw())
 }
 
-/// What a field says, wherever it stands.
+/// The meaning of a field, which doesn't depend on its place in the statement.
 #[derive(Clone, Copy)]
 pub enum Field {
-    /// A decimal, with a sign or without.
+    /// A decimal, with or without a sign.
     Number(Signed),
-    /// `.`: the field of the statement before.
+    /// `.`: the same field of the previous statement.
     Same,
-    /// `+`: where the note before ends.
+    /// `+`: the time at which the previous note ends.
     After,
-    /// `^+x`: x beats after the start of the note before.
+    /// `^+x`: x beats after the previous note starts.
     Ahead(Decimal),
-    /// A form that the profile leaves out.
+    /// A form that isn't in the profile.
     Foreign,
     /// Neither a number nor a mark.
     Unreadable,
 }
 
 impl Field {
-    /// What a word says.
+    /// The meaning of a word.
     pub fn of(word: &[u8]) -> Field
         ensures { result ≡ field_of word.now }
     {
@@ -123,7 +124,8 @@ impl Field {
         }
     }
 
-    /// The number of a field at a place where no `+` may stand. A `.` that nothing fills is refused as `dot`.
+    /// The number of a field at a place that doesn't allow `+`. Fails with `dot` for a `.` that has nothing
+    /// to carry.
     pub fn number(self, dot: ScoreKind) -> Result<Signed, ScoreKind>
         ensures { result ≡ number_of dot self }
     {
@@ -162,7 +164,7 @@ fn decimal_after(minus: bool, text: &[u8]) -> Option<Signed>
     Some(Signed { minus, size })
 }
 
-// `^+x`, or a form that the profile leaves out.
+// `^+x`, or a form that isn't in the profile.
 fn after_caret(word: &[u8]) -> Field
     ensures { result ≡ caret_field word.now }
 {
