@@ -1,4 +1,4 @@
--- An arm of an `if`: its condition, its body or what comes after it.
+-- An arm of an `if`: its condition, followed by its body or the remaining arms.
 use Rattle.std.proofs.Common.{◌≡◌, ℕ, ◌+◌, ◌≤◌, false, List, [], ◌∷◌, ◌++◌, length, Option, if◌then◌else◌, refl, sym}
 use Rattle.std.proofs.Common.{◌∙◌, ap, subst, arith, le_trans}
 use Rattle.cs_base.proofs.Tests.{by_test}
@@ -9,7 +9,7 @@ use Rattle.cs_code.specs.{Means.StandsInMachine, inner.Spots.op_of, inner.Code.a
 use Rattle.cs_code.proofs.Runs.{Live, run_append, live_step, skip_step, run_past, run_refused}
 use Rattle.cs_ir.specs.declared.op.Act.TheVariants as act
 
--- A machine stands as a note does, and goes on at a place or before it.
+-- A machine corresponds to a note, and continues at a place or before it.
 pub record Agrees {W : Type 0} (placed : Path → Option ℕ) (place : ℕ) (t : Note W) (m : Machine W) : Type 0 where
   pub stands : StandsInMachine placed t m
   pub next : m.next ≤ place
@@ -19,7 +19,7 @@ module _ {W : Type 0} (o : World W) (placed : Path → Option ℕ) where
       → Live o place m
   agrees_live place t m a going = record { next = a.next; going = ap o.refused a.stands.world ∙ going }
 
-  -- only the place to go on at changes
+  -- only the place of the next op changes
   agrees_at : (place to : ℕ) (t : Note W) (m : Machine W) → StandsInMachine placed t m → to ≤ place
       → Agrees placed place t (record m { next = to })
   agrees_at place to t m s le =
@@ -29,7 +29,7 @@ module _ {W : Type 0} (o : World W) (placed : Path → Option ℕ) where
       → Agrees placed later t m
   agrees_later place later t m le a = record { stands = a.stands; next = le_trans a.next le }
 
-  -- After the body: what is left is passed over, by the jump or because something was refused.
+  -- After the body, the remaining arms are skipped, by the jump or because something was refused.
   leave_runs : (at : ℕ) (q : Reg) (rest : List Op) (t : Note W) (m : Machine W) → Agrees placed at t m
       → Agrees placed (at + 1 + length rest) t (run o at (op_of (act.Jump (at + 1 + length rest)) q [] ∷ rest) m)
   leave_runs at q rest t m a = by_test (o.refused m.world)
@@ -47,7 +47,7 @@ module _ {W : Type 0} (o : World W) (placed : Path → Option ℕ) where
       subst (Agrees placed (at + 1 + length rest) t) (sym is)
       (agrees_at (at + 1 + length rest) (at + 1 + length rest) t m a.stands (omega arith)))
 
-  -- the condition holds: its body, and then a jump over the rest
+  -- if the condition holds, the body runs, followed by a jump past the remaining arms
   taken_runs : (at : ℕ) (q : Reg) (body rest : List Op) (t : Note W) (m : Machine W)
       → Agrees placed (at + length body) t (run o at body m) → Agrees placed (at + length body + 1 + length rest) t
       (run o at (body ++ (op_of (act.Jump (at + length body + 1 + length rest)) q [] ∷ rest)) m)
@@ -56,7 +56,7 @@ module _ {W : Type 0} (o : World W) (placed : Path → Option ℕ) where
       subst (Agrees placed (at + length body + 1 + length rest) t) (sym (run_append o at body (jump ∷ rest) m))
       (leave_runs (at + length body) q rest t (run o at body m) a)
 
-  -- the condition doesn't hold: the body and its jump are passed over
+  -- if the condition doesn't hold, the body and its jump are skipped
   passed_runs : (at : ℕ) (jump : Op) (body rest : List Op) (t : Note W) (m : Machine W) → m.next ≡ at + length body + 1
       → Agrees placed (at + length body + 1 + length rest) t (run o (at + length body + 1) rest m)
       → Agrees placed (at + length body + 1 + length rest) t (run o at (body ++ (jump ∷ rest)) m)
@@ -68,7 +68,8 @@ module _ {W : Type 0} (o : World W) (placed : Path → Option ℕ) where
       ∙ ap (run o (at + length body + 1) rest) over in
       subst (Agrees placed (at + length body + 1 + length rest) t) (sym is) a
 
-  -- An arm, from its condition's run, and the runs of its body and of the rest on any machine that agrees there.
+  -- The run of an arm, from the run of its condition, and the runs of its body and of the remaining arms on
+  -- any machine that agrees there.
   pub arm_runs : (place : ℕ) (before : List Op) (q : Reg) (body rest : List Op) (s tb tr : Note W) (w : Wave)
       (m : Machine W) → Agrees placed (place + length before) s (run o place before m) → o.refused s.world ≡ false
       → (run o place before m).regs q ≡ w → ((n : Machine W) → Agrees placed (place + length before + 1) s n

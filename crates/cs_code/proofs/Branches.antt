@@ -1,4 +1,4 @@
--- Arms one after another whose jumps are aimed once their end is known.
+-- Arms one after another, whose jumps get their target once the end is known.
 use Rattle.std.proofs.Common.{◌≡◌, ◌∙◌, ◌+◌, ◌++◌, ℕ, true, false, List, [], ◌∷◌, length, arith, refl, sym, ap, subst}
 use Rattle.std.specs.List.{AllZip}
 use Rattle.std.proofs.lemmas.List.{append_assoc, length-append}
@@ -20,7 +20,7 @@ use Rattle.cs_code.proofs.{Growing.grew_long, Lists.zip_one, Lists.zip_still}
 use Rattle.cs_ir.specs.declared.op.Act.TheVariants as act
 use Rattle.cs_typed.specs.TypedTree as typed
 
--- ---- one jump that is aimed
+-- ---- setting the target of one jump
 
 pub aim_seam : (xs : List Op) (op : Op) (ys : List Op) (to : ℕ)
     → aim (length xs) to (xs ++ op ∷ ys) ≡ xs ++ op_of (aimed to op.act) op.into op.from ∷ ys
@@ -29,7 +29,7 @@ aim_seam (x ∷ xs) op ys to = ap (λ l. x ∷ l) (aim_seam xs op ys to)
 
 -- ---- an arm among other ops
 
--- the ops before its jump, the jump, and what follows
+-- the ops before its jump, the jump, and the ops after it
 flat : (pre cond body : List Op) (test jump : Op) (rest : List Op)
     → pre ++ ((cond ++ (test ∷ (body ++ (jump ∷ [])))) ++ rest) ≡ (pre ++ (cond ++ (test ∷ body))) ++ (jump ∷ rest)
 flat pre cond body test jump rest =
@@ -44,7 +44,7 @@ joined_long place end b =
     let test : Op = op_of (act.Unless (past_branch place b)) b.q (b.q ∷ []) in
     omega (arith, length-append b.cond (test ∷ (b.body ++ (jump ∷ []))), length-append b.body (jump ∷ []))
 
--- how long an arm and those after it are
+-- the end of an arm and of the arms after it
 arm_end : (place : ℕ) (cond : List Op) (q : Reg) (body rest : List Op)
     → place + length (arm_code place cond q body rest) ≡ place + length cond + 1 + length body + 1 + length rest
 arm_end place cond q body rest =
@@ -66,7 +66,7 @@ opened_long place (b ∷ bs) =
     let rest = opened_long (past_branch place b) bs in
     omega arith
 
--- the first arm, and the others
+-- the first arm, followed by the remaining ones
 chain_first : (place end : ℕ) (b : Branch) (bs : List Branch) (els : List Op) → end ≡ after place (b ∷ bs) + length els
     → joined place b end ++ chain (past_branch place b) bs els ≡ chain place (b ∷ bs) els
 chain_first place end b bs els e =
@@ -77,9 +77,9 @@ chain_first place end b bs els e =
     ∙ ap (λ xs. b.cond ++ (unless ∷ xs)) (append_assoc b.body (jump end ∷ []) rest)
     ∙ ap (λ to. b.cond ++ (unless ∷ (b.body ++ (jump to ∷ rest)))) (e ∙ sym (chain_end (past_branch place b) bs els))
 
--- ---- all jumps aimed
+-- ---- setting the targets of all jumps
 
--- an arm's jump is aimed, whatever stands around the arm
+-- setting the target of an arm's jump, with any ops before and after the arm
 aimed_one : (place end : ℕ) (pre : List Op) (b : Branch) (rest : List Op) → length pre ≡ place
     → aim (jump_at place b) end (pre ++ (joined place b 0 ++ rest)) ≡ pre ++ (joined place b end ++ rest)
 aimed_one place end pre b rest at =
@@ -123,7 +123,8 @@ pub past_chosen : (o : Scope) (p : Progress) (list : List TypedArm) (els : typed
 past_chosen o p [] els = refl
 past_chosen o p (a ∷ rest) els = past_chosen o (past_arm o p a) rest els
 
--- an arm is made: its condition, a test, its body, and a jump; then the test is aimed past the jump
+-- an arm is emitted: its condition, a test, its body, and a jump; then the target of the test is set to the
+-- place after the jump
 arm_ops : (old first tested filled jumped new cond body : List Op) (q : Reg) (test past : ℕ) → first ≡ old ++ cond
     → test ≡ length first → tested ≡ first ++ (op_of (act.Unless 0) q (q ∷ []) ∷ []) → filled ≡ tested ++ body
     → jumped ≡ filled ++ (op_of (act.Jump 0) q [] ∷ []) → past ≡ length jumped → new ≡ aim test past jumped
@@ -170,7 +171,7 @@ module _ (old first tested filled jumped new : Draft) (cond body : List Op) (q :
         (tests.marks mark place (begun.marks mark place h))));
   }
 
-  -- what its jump's mark stands for
+  -- the place of its jump's mark
   pub arm_marked : (end : ℕ) → IsAt jumped end (length (drafted filled)) → (ends places : List ℕ)
       → AllZip (IsAt old) ends places → AllZip (IsAt new) (ends ++ end ∷ [])
       (places ++ jump_at (length (drafted old)) (record { cond = cond; q = q; body = body }) ∷ [])
@@ -182,18 +183,18 @@ module _ (old first tested filled jumped new : Draft) (cond body : List Op) (q :
       zip_one (IsAt new) ends places end place (zip_still (IsAt old) (IsAt new) arm_made.marks ends places h)
       (subst (IsAt new end) here (aimed_test.marks end (length (drafted filled)) there))
 
--- where its body begins, after the op of its test
+-- its body begins after the op of its test
 pub body_begins : (old first tested : Draft) (cond : List Op) (test : Op) → Grew old first cond
     → Grew first tested (test ∷ []) → length (drafted tested) ≡ length (drafted old) + length cond + 1
 body_begins old first tested cond test begun tests =
     omega (arith, grew_long old first cond begun, grew_long first tested (test ∷ []) tests)
 
--- how long an arm is, and how long one is that is initialised whatever its condition is
+-- the length of an arm, and the length of an arm that is initialised regardless of its condition
 pub arm_long : (way : Pass) (o : Scope) (place : ℕ) (p : Progress) (a : TypedArm)
     → place + length (joined place (branch_of way o place p a) 0) ≡ past_branch place (branch_of way o place p a)
 arm_long way o place p a = joined_long place 0 (branch_of way o place p a)
 
--- one arm more, in the loop that makes them: from where the ops end then
+-- one more arm in the loop that emits them, from the end of the ops so far
 pub opened_more : (way : Pass) (o : Scope) (place next : ℕ) (p q : Progress) (arms : List TypedArm) (a : TypedArm)
     (rest : List TypedArm) → arms ≡ a ∷ rest → q ≡ past_arm o p a
     → next ≡ place + length (joined place (branch_of way o place p a) 0) → opened place (branches way o place p arms)
@@ -225,7 +226,7 @@ each_more o place next p q arms a rest split on at =
     ap (each_code o place p) split ∙ sym (ap (λ k. one ++ each_code o (place + length one) k rest) on)
     ∙ sym (ap (λ n. one ++ each_code o n q rest) at)
 
--- arms that are all initialised, and the statements after `else`
+-- arms that are all initialised, followed by the statements after `else`
 each_all : (o : Scope) (place : ℕ) (p : Progress) (list : List TypedArm) (els : typed.Block)
     → all_code place p (arms_in o els list) ≡ each_code o place p list
     ++ init_block_code (place + length (each_code o place p list)) (past_list o p list) (core_in o els)
@@ -245,7 +246,7 @@ each_all o place p (a ∷ rest) els =
     (init_block_code (place + length one + length more) (past_list o next rest) (core_in o els)))
     ∙ ap (λ n. (one ++ more) ++ init_block_code n (past_list o next rest) (core_in o els)) end
 
--- all arms are made, then the statements after `else`, and then the jumps are aimed
+-- all arms are emitted, then the statements after `else`, and then the targets of the jumps are set
 chosen_ops : (way : Pass) (o : Scope) (old mid last new : List Op) (p q : Progress) (list : List TypedArm)
     (els : typed.Block) → mid ≡ old ++ opened (length old) (branches way o (length old) p list)
     → q ≡ past_list o p list → last ≡ mid ++ pass_block_code way (length mid) q (core_in o els)
@@ -290,8 +291,8 @@ chosen_made way o old mid last new ends p q list els made marked on done closing
       marks = λ mark place h. aims.marks mark place (done.marks mark place (made.marks mark place h));
     }
 
--- an `if` as the tree has it, whatever holds its arms and the statements after `else`: the code of all its arms, that
--- of one of them, and the progress behind it
+-- an `if` of the tree: the code of all its arms, the code in which one of them is performed, and the progress
+-- after it
 module _ (o : Scope) (line : ℕ) (r : Rate) (s : typed.Block) (arms list : List TypedArm) (stmts els : List TypedStmt)
     (seen : s ≡ typed.alone (typed.choose line r (typed.arms o.routines (typed.block o.routines els) list)))
     (are : arms ≡ list) (rest_are : stmts ≡ els) (p q : Progress) (on : q ≡ past_list o p arms) where

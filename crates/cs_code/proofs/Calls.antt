@@ -1,4 +1,4 @@
--- What calls are short for, by their shapes.
+-- The core statements of calls, by the shapes of opcodes.
 use Rattle.std.proofs.Common.{◌≡◌, ◌++◌, ◌∷◌, ◌∙◌, ℕ, Bool, true, false, true≢false, List, [], Option, Some, None, refl}
 use Rattle.std.proofs.Common.{sym, ap, subst, length, IfOk, OnOk, Ok, Err, Result}
 use Rattle.cs_base.specs.{declared.resource.Rate.Rate, declared.spaces.Spaces.Spaces}
@@ -19,7 +19,7 @@ use Rattle.cs_words.specs.declared.catalogue.Shape.TheVariants as shape
 use Rattle.cs_code.specs.declared.frame.Pass.TheVariants as pass
 use Rattle.cs_code.specs.declared.simple.Sending.TheVariants as sending
 
--- a call is the assignment that it is short for, or else an effect
+-- the core statement of a call is an assignment, if it is one, or an effect otherwise
 abbrev pub either_of : Option Assigned → Stmt → Stmt
 either_of (Some a) s = set_of a
 either_of None s = s
@@ -41,7 +41,7 @@ pub call_effect : (o : Spaces) (r : Rate) (vs : List Variable) (op : Opcode) (sh
     → assigned sh r vs args ≡ None → core_call o r vs op sh args ≡ effect o r vs op sh args
 call_effect o r vs op sh args h = by_assigned o r vs op sh args ∙ ap (λ x. either_of x (effect o r vs op sh args)) h
 
--- The code of what is no `if` is the same at each place.
+-- The code of a statement that is no `if` is the same at each place.
 abbrev pub is_choice : Stmt → Bool
 is_choice (choose r arms) = true
 is_choice _ = false
@@ -77,7 +77,7 @@ pub call_anywhere : (way : Pass) (place : ℕ) (p : Progress) (o : Spaces) (r : 
 call_anywhere way place p o r vs op sh args =
     sym (anywhere way place p (core_call o r vs op sh args) (call_simple o r vs op sh args))
 
--- a call that stands alone
+-- a call as a single statement
 pub call_alone : (way : Pass) (place : ℕ) (p : Progress) (o : Spaces) (k : Call)
     → pass_code way 0 p (core_call o k.rate k.results.now k.opcode (row_of k.opcode).shape (arguments_of k))
     ≡ pass_block_code way place p (alone_in o (called k))
@@ -86,7 +86,7 @@ call_alone way place p o k =
     sym (call_anywhere way place p o k.rate k.results.now k.opcode sh (arguments_of k))
     ∙ sym (alone_code way place p (core_call o k.rate k.results.now k.opcode sh (arguments_of k)))
 
--- what two clauses told of the statement that it is short for
+-- the code of a call, from the two clauses about its core statement
 pub call_lowered : {E : Type 0} (way : Pass) (old new : Draft) (p : Progress) (o : Spaces) (k : Call) (s : Stmt)
     (r : Result Progress E) → core_call o k.rate k.results.now k.opcode (row_of k.opcode).shape (arguments_of k) ≡ s
     → OnOk r (Grew old new (pass_code way 0 p s)) → IfOk r (λ q. q ≡ past_stmt p s)
@@ -97,10 +97,10 @@ call_lowered way old new p o k s (Ok q) is grew past_it = record {
 }
 call_lowered way old new p o k s (Err e) is grew past_it = tt
 
--- the code of an assignment and of a call is the same at each place
+-- the code of an assignment and of a call doesn't depend on its place
 pub ruleset at_each_place = (set_anywhere, call_anywhere)
 
--- values that go out in a cycle
+-- values that are output in a cycle
 sent_in_cycle : (place : ℕ) (p : Progress) (how : Sending) (r : Rate) (es : List Expression)
     → perf_code place p (sent_as how r es) ≡ operands_code cycle p.part es 0 ++ sent_ops how (spots cycle p.part es 0)
 sent_in_cycle place p sending.InTurn r es = refl

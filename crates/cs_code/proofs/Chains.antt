@@ -14,11 +14,11 @@ use Rattle.cs_base.specs.declared.resource.Rate.TheVariants as rate
 use Rattle.cs_typed.specs.TypedTree as typed
 use Rattle.cs_code.specs.declared.frame.Pass.TheVariants as pass
 
--- no statement more
+-- no more statements
 pub block_none : (way : Pass) (place : ℕ) (p : Progress) → pass_block_code way place p no_stmt ≡ []
 block_none way place p = refl
 
--- one statement alone
+-- a single statement
 pub alone_code : (way : Pass) (place : ℕ) (p : Progress) (s : Stmt)
     → pass_block_code way place p (andthen s no_stmt) ≡ pass_code way place p s
 alone_code way place p s = append-nil (pass_code way place p s)
@@ -51,7 +51,7 @@ both_past : (p : Progress) (a b : Block) → past_block p (both_blocks a b) ≡ 
 both_past p no_stmt b = refl
 both_past p (andthen s rest) b = both_past (past_stmt p s) rest b
 
--- one statement more, in the loop that makes them: from where the ops end then
+-- one more statement in the loop that emits them, from the end of the ops so far
 pub block_more : (way : Pass) (o : Scope) (place next : ℕ) (p q : Progress) (all a b : typed.Block)
     → all ≡ typed.then_block a b → q ≡ past_block p (core_in o a)
     → next ≡ place + length (pass_block_code way place p (core_in o a)) → pass_block_code way place p (core_in o all)
@@ -69,7 +69,7 @@ past_more o p q all a b split on =
     ap (λ x. past_block p (core_in o x)) split ∙ ap (past_block p) (core_both o a b)
     ∙ both_past p (core_in o a) (core_in o b) ∙ sym (ap (λ k. past_block k (core_in o b)) on)
 
--- an `if` by whether all its arms are initialised
+-- an `if`, if all its arms are initialised and if they aren't
 pub all_taken : (way : Pass) (place : ℕ) (p : Progress) (r : Rate) (arms : Arms) → takes_all way r ≡ true
     → pass_code way place p (choose r arms) ≡ all_code place p arms
 all_taken pass.Initialisation place p rate.Init arms h = absurd (true≢false (sym h))
@@ -84,24 +84,24 @@ one_taken pass.Initialisation place p rate.Control arms h = absurd (true≢false
 one_taken pass.Initialisation place p rate.Audio arms h = absurd (true≢false h)
 one_taken pass.Performance place p r arms h = refl
 
--- all of them are initialised in the initialisation alone
+-- all arms are initialised only in the initialisation pass
 pub taken_pass : (way : Pass) (r : Rate) → takes_all way r ≡ true → way ≡ pass.Initialisation
 taken_pass pass.Initialisation r h = refl
 taken_pass pass.Performance r h = absurd (true≢false (sym h))
 
--- a condition in the performance
+-- a condition in the performance pass
 pub tested : (way : Pass) (at : ℕ) (e : Expression) → way ≡ pass.Performance
     → operand_code (when_of way) at e 0 ≡ cond_code way at e
 tested pass.Performance at e h = refl
 tested pass.Initialisation at e h = absurd (cc)
 
--- the code of a statement that is done once
+-- the code of a statement that is performed once
 pub code_once : (way w : Pass) (p : Progress) (s : Stmt) (r : Rate) (a b : List Op) → way ≡ w → r ≡ rate.Init
     → pass_code w 0 p s ≡ if_init r a b → a ≡ pass_code way 0 p s
 code_once way w p s r a b in_pass once is =
     sym (ap (λ q. if_init q a b) once) ∙ sym is ∙ sym (ap (λ v. pass_code v 0 p s) in_pass)
 
--- and of one that is done in each cycle
+-- the code of a statement that is performed in each cycle
 pub each_is : {A : Type 0} (r : Rate) (once each : A) → (r ≡ rate.Control) ⊎ (r ≡ rate.Audio)
     → if_init r once each ≡ each
 each_is r once each (inl h) = ap (λ q. if_init q once each) h

@@ -1,4 +1,4 @@
--- Jumps of a draft that are aimed one after another, by their marks.
+-- Setting the targets of a draft's jumps one after another, by their marks.
 use Rattle.std.proofs.Common.{◌≡◌, ◌∙◌, ℕ, zero, suc, List, [], ◌∷◌, length, refl, ap}
 use Rattle.std.specs.List.{AllZip}
 use Rattle.cs_ir.specs.{Codes.aim, declared.op.Op.Op}
@@ -11,7 +11,7 @@ aim_long n to [] = refl
 aim_long zero to (op ∷ ops) = refl
 aim_long (suc n) to (op ∷ ops) = ap suc (aim_long n to ops)
 
--- Of jumps at some places those are left whose marks these are; the others are aimed.
+-- The jumps with these marks remain; the targets of all others are set.
 pub record Closing (start here : Draft) (marks places : List ℕ) : Type 0 where
   pub left : List ℕ
   pub marked : AllZip (IsAt here) marks left

@@ -1,4 +1,4 @@
--- The code of an expression works out its value.
+-- The code of an expression computes its value.
 use Rattle.std.proofs.Common.{◌≡◌, ℕ, ◌+◌, false, List, [], ◌∷◌, ◌++◌, length, map, Option, Some, None, refl, sym, ◌∙◌}
 use Rattle.std.proofs.Common.{ap, subst, arith, append-nil}
 use Rattle.cs_base.proofs.Tests.{some_is}
@@ -22,22 +22,22 @@ use Rattle.cs_code.proofs.Runs.{three_lists, Under, under_more, under_temp, unde
 use Rattle.cs_base.specs.declared.resource.Rate.TheVariants as rate
 use Rattle.cs_ir.specs.declared.op.Act.TheVariants as act
 
--- ---- what a run leaves as it was
+-- ---- the parts of a machine that a run doesn't change
 
--- the world, the next place, and all registers but the temporaries from d on
+-- the world, the next place, and all registers except the temporaries from d on are unchanged
 pub record Same {W : Type 0} (d : ℕ) (m n : Machine W) : Type 0 where
   pub world : n.world ≡ m.world
   pub next : n.next ≡ m.next
   pub regs : (p : Reg) → Under d p → n.regs p ≡ m.regs p
 
--- all of that but a register, which holds a value
+-- a register holds a value, and everything else of these is unchanged
 pub record Wrote {W : Type 0} (q : Reg) (d : ℕ) (w : Wave) (m n : Machine W) : Type 0 where
   pub world : n.world ≡ m.world
   pub next : n.next ≡ m.next
   pub here : n.regs q ≡ w
   pub others : (p : Reg) → same_reg p q ≡ false → Under d p → n.regs p ≡ m.regs p
 
--- a value stands in a register that is no temporary
+-- a register that is no temporary holds a value
 pub record Stood {W : Type 0} (q : Reg) (w : Wave) (m : Machine W) : Type 0 where
   pub here : m.regs q ≡ w
   pub low : Under 0 q
@@ -93,7 +93,7 @@ never_none cycle rate.Init at q h = let h : Some (kept_reg at) ≡ None = h in c
 never_none cycle rate.Control at q h = let h : Some q ≡ None = h in cc
 never_none cycle rate.Audio at q h = let h : Some q ≡ None = h in cc
 
--- ---- values that stand already, and values that don't
+-- ---- values that are in a register already, and values that aren't
 
 still_part : (k : ℕ) (when : When) (r : Rate) (at : ℕ) (z : _) (w : Wave) → kept_or when r at None ≡ None
     → held k r (part when r z (held k r w)) ≡ part when r z (held k r w)
@@ -101,7 +101,7 @@ still_part k when r at z w none =
     let e = part_own when r at None z (held k r w) none in
     ap (held k r) e ∙ held_again k r w ∙ sym e
 
--- a value without a register of its own is held at its rate
+-- a value that isn't in a register yet is held at its rate
 pub still : {W : Type 0} (o : World W) (t : Note W) (when : When) (at : ℕ) (path : Path) (e : Expression)
     → direct when at e ≡ None → held o.ksmps (node_rate e) (value o t when path e) ≡ value o t when path e
 still o t when at path (number r n) none = still_part o.ksmps when r at (t.kept path) (constant n) none
@@ -121,7 +121,7 @@ still o t when at path (apply r g x) none =
     still_part o.ksmps when r at (t.kept path) (λ j. applied g (value o t when (0 ∷ path) x j)) none
 
 module _ {W : Type 0} (o : World W) (placed : Path → Option ℕ) (t : Note W) where
-  -- registers by numbers, where they are read
+  -- the registers of kept values, if these are read
   abbrev KnownArgument : When → Path → (Path → Option ℕ) → Type 0
   KnownArgument when path n = Reads when (Lays placed path n)
 
@@ -148,7 +148,7 @@ module _ {W : Type 0} (o : World W) (placed : Path → Option ℕ) (t : Note W) 
   never_there : (m : Machine W) (q : Reg) (w : Wave) → None ≡ Some q → Stood q w m
   never_there m q w h = absurd (cc)
 
-  -- what stands already is right, and below all temporaries
+  -- a value that is in a register already is right, and the register is below all temporaries
   pub direct_right : (m : Machine W) → StandsInMachine placed t m
       → (when : When) (at : ℕ) (path : Path) (e : Expression) (q : Reg)
       → KnownArgument when path (numbers at e) → direct when at e ≡ Some q → Stood q (value o t when path e) m
@@ -182,7 +182,8 @@ module _ {W : Type 0} (o : World W) (placed : Path → Option ℕ) (t : Note W) 
       let w : Wave = held o.ksmps r (λ j. applied g (value o t when (0 ∷ path) x j)) in
       stood m s when r at path (all_numbers at (x ∷ [])) None w q known is (never_there m q w)
 
-  -- what is to be shown of an expression that stands nowhere yet: its code works it out, into any register of its rate
+  -- the goal for an expression that isn't in a register yet: its code computes it, into any register of its
+  -- rate
   pub record OwnRuns (e : Expression) : Type 0 where
     pub runs : (when : When) (at : ℕ) (path : Path) (x : Reg) → rate_at x ≡ node_rate e → (d place : ℕ)
         (m : Machine W) → StandsInMachine placed t m → Live o place m
@@ -243,7 +244,7 @@ module _ {W : Type 0} (o : World W) (placed : Path → Option ℕ) (t : Note W) 
       (sym (run_append o place first rest m))
       (ready_more e es when at path d m n (run o (place + length first) rest n) a b)
 
-  -- operands, and then the op that makes a value of them
+  -- operands, followed by the op that computes a value from them
   node_from : (es : List Expression) → AllRun es
       → (a : Act) (r : Rate) (v : List Wave → Wave) (when : When) (at : ℕ) (path : Path) (x : Reg) → rate_at x ≡ r
       → (d place : ℕ) (m : Machine W)
@@ -271,7 +272,7 @@ module _ {W : Type 0} (o : World W) (placed : Path → Option ℕ) (t : Note W) 
         others = λ p other low. put_other n.regs x made p other ∙ ready.same.regs p low;
       }))
 
-  -- as an expression's own code and value
+  -- a run of equal code, as a run of the expression's code
   as_own : (r : Rate) (when : When) (at : ℕ) (path : Path) (x : Reg) (d place : ℕ) (m : Machine W) (u : Wave)
       (made code : List Op) → kept_or when r at None ≡ None → made ≡ code → Wrote x d u m (run o place made m)
       → Wrote x d (part when r (t.kept path) u) m (run o place code m)
@@ -279,7 +280,7 @@ module _ {W : Type 0} (o : World W) (placed : Path → Option ℕ) (t : Note W) 
       subst (λ w. Wrote x d w m (run o place code m)) (sym (part_own when r at None (t.kept path) u none))
       (subst (λ c. Wrote x d u m (run o place c m)) is h)
 
-  -- a leaf, whose op works out its value by itself
+  -- a leaf, whose op alone computes its value
   leaf_runs : (a : Act) (r : Rate) (w : Wave) (when : When) (at : ℕ) (path : Path) (x : Reg) → rate_at x ≡ r
       → (d place : ℕ) (m : Machine W)
       → ((n : Machine W) (ws : List Wave) → n.world ≡ t.world → acts o a x ws n ≡ write o.ksmps x w n)

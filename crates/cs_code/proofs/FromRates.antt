@@ -1,4 +1,4 @@
--- What the rules of rates say of the core of a block.
+-- Facts about the core statements of a block, from the rules of rates.
 use Rattle.std.proofs.Common.{ap₂, ◌≡◌, ℕ, zero, suc, ◌+◌, ◌-◌, ◌%◌, ◌<◌, ◌≤◌, Bool, true, false, not, ◌&&◌, ◌==◌, List}
 use Rattle.std.proofs.Common.{[], ◌∷◌, length, nat_le, if◌then◌else◌, refl, sym, ◌∙◌, ap, subst, arith, leb-true}
 use Rattle.std.proofs.Common.{eqb-true, eq-eqb, ne_eqb, ltb-false}
@@ -49,7 +49,7 @@ read_once : (e : Expression) → is_read_once e ≡ true → is_control (node_ra
 read_once (var r v) h = h
 read_once a h = cc
 
--- what a name stands for has a value
+-- a name's variable has a value
 variable_holds : (v : Variable) → is_variable v ≡ true → holds_value v ≡ true
 variable_holds (Global (res.Table n)) h = absurd (cc)
 variable_holds a h = refl
@@ -65,7 +65,7 @@ given_holds row v vs h =
     let all = and_parts (may_give row v) (list_all (may_give row) vs) h in
     variable_holds v (and_parts (is_variable v) (list_any (same_rate (var_rate v)) row.results) all.0).0
 
--- a value that it may take
+-- a variable with a value can be read at this rate
 takes_it : (r : Rate) (v : Variable) → holds_value v ≡ true → within r (var_rate v) ≡ true
     → (holds_value v && within r (var_rate v)) ≡ true
 takes_it r v h k = two (holds_value v) (within r (var_rate v)) h k
@@ -143,7 +143,7 @@ moving_ranked row n (typed.value e ∷ rest) h =
     (h.0, more)
 moving_ranked row n (typed.text v ∷ rest) h = moving_ranked row (n + 1) rest h.1
 
--- ---- what goes out, and what is asked for
+-- ---- values that are output, and scheduled notes
 
 sounds : (row : Row) (bound : Rate) (n : ℕ) (args : List typed.Argument)
     → ((k : ℕ) → k < n + length args → letter_at row k ≡ letter.Audio)

@@ -1,4 +1,4 @@
--- Drafts that grow: what is made so far, and what the rest will make.
+-- Drafts that grow: the code so far, and the code that the rest will add.
 use Rattle.std.proofs.Common.{◌≡◌, ◌∙◌, ◌+◌, ◌++◌, List, [], length, refl, ap, subst, sym, IfOk, OnOk, Ok, Err, Result}
 use Rattle.std.proofs.lemmas.List.{length-append}
 use Rattle.cs_base.specs.declared.spaces.Spaces.{Spaces}
@@ -9,7 +9,7 @@ use Rattle.cs_code.specs.{inner.Served.Serve, inner.Code.pass_block_code, inner.
 use Rattle.cs_meaning.specs.Core.{Block}
 use Rattle.cs_typed.specs.TypedTree as typed
 
--- What grows by the rest from here has grown by the whole from the start.
+-- Growing by the rest from here means growing by the complete code from the start.
 abbrev pub Leads : Draft → Draft → List Op → List Op → Type 0
 Leads start here rest whole = (d : Draft) → Grew here d rest → Grew start d whole
 
@@ -22,7 +22,7 @@ pub leads_end : (start here : Draft) (rest whole : List Op) → Leads start here
     → Grew start here whole
 leads_end start here rest whole was none = was here (subst (Grew here here) (sym none) (grew_none here))
 
--- whatever is returned then, and what follows from what a call tells
+-- a fact that holds for any result; and a fact that follows from a call's clauses
 pub on_any : {T E P : Type 0} (r : Result T E) → P → OnOk r P
 on_any (Ok x) p = p
 on_any (Err e) p = tt
@@ -31,7 +31,7 @@ pub on_then : {T E P Q : Type 0} (r : Result T E) → (P → Q) → OnOk r P →
 on_then (Ok x) f p = f p
 on_then (Err e) f p = tt
 
--- where the ops end then
+-- the number of ops afterwards
 pub grew_long : (a b : Draft) (more : List Op) → Grew a b more → length (drafted b) ≡ length (drafted a) + length more
 grew_long a b more grew = ap length grew.ops ∙ length-append (drafted a) more
 
@@ -39,14 +39,14 @@ pub ok_then : {X Y : Type 0} {P Q : X → Type 0} (r : Result X Y) → IfOk r P 
 ok_then (Ok x) h f = f x h
 ok_then (Err e) h f = tt
 
--- what a call told by two clauses
+-- the two clauses of a call, as one fact
 pub lowered : {E : Type 0} (way : Pass) (old new : Draft) (p : Progress) (b : Block) (r : Result Progress E)
     → OnOk r (Grew old new (pass_block_code way (length (drafted old)) p b)) → IfOk r (λ q. q ≡ past_block p b)
     → IfOk r (λ q. Lowered way old new p q b)
 lowered way old new p b (Ok q) grew past_it = record { ops = grew; next = past_it }
 lowered way old new p b (Err e) grew past_it = tt
 
--- ---- one after another
+-- ---- one code after another
 
 pub grew_as : (a b : Draft) (xs all : List Op) → Grew a b xs → xs ≡ all → Grew a b all
 grew_as a b xs all one is = subst (Grew a b) is one
@@ -59,11 +59,11 @@ pub grew_three : (a b c d : Draft) (xs ys zs all : List Op) → Grew a b xs → 
 grew_three a b c d xs ys zs all one two three is =
     grew_two a b d xs (ys ++ zs) all one (grew_on b c d ys zs two three) is
 
--- where nothing is appended
+-- if nothing is appended
 pub grew_nothing : (a : Draft) (none : List Op) → none ≡ [] → Grew a a none
 grew_nothing a none is = subst (Grew a a) (sym is) (grew_none a)
 
--- routines that serve serve as the same lists too, and those of a draft as it grows
+-- routines still serve a code if their lists are replaced by equal ones, or a draft grows
 pub serve_as : (way : Pass) (spaces : Spaces) (rs : List typed.Block) (made made' : List (List Op))
     (extents extents' : List Progress) → made' ≡ made → extents' ≡ extents → Serve way spaces rs made extents
     → Serve way spaces rs made' extents'

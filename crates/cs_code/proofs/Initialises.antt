@@ -1,4 +1,4 @@
--- The code of the initialisation does what statements do as the note begins.
+-- The initialisation code has the same effect as statements at the note's beginning.
 use Rattle.std.proofs.Common.{◌≡◌, ℕ, suc, ◌+◌, false, List, [], ◌∷◌, ◌++◌, length, Option, Some, refl, sym, ◌∙◌, ap}
 use Rattle.std.proofs.Common.{subst, arith, length-append}
 use Rattle.cs_base.proofs.Tests.{by_test}
@@ -35,7 +35,7 @@ module _ {W : Type 0} (o : World W) (quiet : Quiet o) (placed : Path → Option 
       → Agrees placed (place + length ops) s n
   from_kept s place ops m n l h = record { stands = h.stands; next = (let e = h.next in let k = l.next in omega arith) }
 
-  -- once something was refused, code and meaning stand still
+  -- after something was refused, neither the code nor the meaning does anything more
   going_runs : (place : ℕ) (ops : List Op) (t s : Note W) (m : Machine W) → Agrees placed place t m
       → (o.refused t.world ≡ false → Agrees placed (place + length ops) s (run o place ops m))
       → Agrees placed (place + length ops) (going o t s) (run o place ops m)
@@ -56,7 +56,7 @@ module _ {W : Type 0} (o : World W) (quiet : Quiet o) (placed : Path → Option 
       subst (λ n. Agrees placed n u (run o place (a ++ b) m)) far
       (subst (Agrees placed (place + length a + length b) u) (sym (run_append o place a b m)) (does h))
 
-  -- what is done once, and what leaves parts to be kept
+  -- a statement that is performed once, or one whose parts are kept
   rate_agrees : (r : Rate) (place : ℕ) (path : Path) (x : Path → Option ℕ) (once each : List Op) (s u : Note W)
       (m : Machine W) → Lays placed path (if_init r nowhere x)
       → Agrees placed (place + length once) s (run o place once m)
@@ -136,7 +136,7 @@ module _ {W : Type 0} (o : World W) (quiet : Quiet o) (placed : Path → Option 
       (λ k. from_reached (sought o is s) (place + length first) rest n (run o (place + length first) rest n) lk
       (seek_runs o placed distinct is s (place + length first) n k.stands lk))
 
-  -- the arms of an `if` that is decided once, or of any other
+  -- the arms of an `if` that is decided once, or of any other `if`
   choose_runs : (r : Rate) (arms : Arms) (path : Path) (p : Progress) (place : ℕ) (t : Note W) (m : Machine W)
       → (r ≡ rate.Init → AllStill arms) → (AllStill arms
       → Agrees placed (place + length (first_code place p arms)) (init_first o (stands_at path p) arms t)
@@ -149,7 +149,7 @@ module _ {W : Type 0} (o : World W) (quiet : Quiet o) (placed : Path → Option 
   choose_runs rate.Init arms path p place t m still first all = first (still refl)
   choose_runs a arms path p place t m still first all = all
 
-  -- what goes out in each cycle keeps its parts
+  -- the parts of values that are output in each cycle are kept
   sent_runs : (es : List Expression) (path : Path) (p : Progress) (place : ℕ) (t : Note W) (m : Machine W)
       → Agrees placed place t m → Lays placed path (all_numbers p.part es)
       → Agrees placed (place + length (keep_all_code p.part es)) (going o t (keep_all o (0 ∷ path) es t))

@@ -1,5 +1,5 @@
--- What the simulation asks of registers and of statements: kept values in registers of their own, results where an
--- opcode gives one, and conditions that are kept where an `if` is done once.
+-- The conditions of the simulation on registers and statements: kept values have separate registers, only
+-- opcodes with a result assign one, and the conditions of an `if` that is performed once are kept.
 use Rattle.std.proofs.Common.{◌≡◌, ◌∙◌, ℕ, zero, suc, ◌+◌, true, List, [], ◌∷◌, Option, Some, sym, ap, subst, arith}
 use Rattle.std.proofs.Common.{add-zero}
 use Rattle.cs_words.specs.declared.catalogue.Opcode.{Opcode}
@@ -11,11 +11,11 @@ use Rattle.cs_code.specs.{declared.frame.Progress.Progress, inner.Kept.parts, in
 use Rattle.cs_base.specs.declared.resource.Rate.TheVariants as rate
 use Rattle.cs_meaning.specs.Notes as meaning
 
--- Kept values of different paths have different registers.
+-- Kept values with different paths have different registers.
 abbrev pub AreApart : (Path → Option ℕ) → Type 0
 AreApart placed = (p q : Path) (n : ℕ) → placed p ≡ Some n → placed q ≡ Some n → p ≡ q
 
--- What is kept of a part at a path, and of parts from a path on, has its registers by numbers.
+-- The registers of the values kept at a path, or in the parts from a path on, are given by numbers.
 abbrev pub Lays : (Path → Option ℕ) → Path → (Path → Option ℕ) → Type 0
 Lays placed p n = (q : Path) → placed (inward q p) ≡ n q
 
@@ -36,16 +36,16 @@ behind_is (suc k) n p = behind_is k (suc n) p ∙ ap (λ j. j ∷ p) (further k 
     further : (k n : ℕ) → k + suc n ≡ suc k + n
     further k n = omega arith
 
--- the parts of what stands at a path
+-- the parts inside a path
 pub lays_on : (placed : Path → Option ℕ) (p : Path) (n : Path → Option ℕ) → Lays placed p n → LaysOn placed (0 ∷ p) n
 lays_on placed p n h k q =
     subst (λ r. placed (inward q r) ≡ n (k ∷ q)) (sym (behind_is k 0 p ∙ ap (λ j. j ∷ p) (add-zero k))) (h (k ∷ q))
 
--- the place of the tree that has a path and the number of a unit
+-- the place of the tree with a path and the number of a unit
 abbrev pub stands_at : Path → Progress → meaning.StatementPlace
 stands_at path p = record { path = path; unit = p.unit }
 
--- where parts are read as they were kept, they have their registers
+-- if kept values are read, they have their registers
 abbrev pub Reads : When → Type 0 → Type 0
 Reads beginning A = Unit {0}
 Reads cycle A = A
@@ -65,7 +65,7 @@ pub reads_rest : (when : When) (placed : Path → Option ℕ) (p : Path) (n m : 
 reads_rest beginning placed p n m h = tt
 reads_rest cycle placed p n m h = λ k q. h (suc k) q
 
--- a result has a variable only where its opcode gives one
+-- a result variable exists only if the opcode has a result
 abbrev pub Takes : Opcode → List Variable → Type 0
 Takes opcode [] = Unit {0}
 Takes opcode (v ∷ vs) = gives opcode ≡ true

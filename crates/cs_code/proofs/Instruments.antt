@@ -1,4 +1,5 @@
--- The codes of a block are what is promised of an instrument, and instruments are added in the order of the text.
+-- The codes of a block satisfy the contract of an instrument, and instruments are added in the order of the
+-- text.
 use Rattle.std.proofs.Common.{◌≡◌, ◌∙◌, ◌+◌, ◌<◌, ◌≤◌, ◌++◌, ℕ, true, List, [], ◌∷◌, length, map, max, take, get_or}
 use Rattle.std.proofs.Common.{append_assoc, append-nil, arith, refl, sym, ap, ap₂, subst}
 use Rattle.std.specs.List.{All, AllZip, Contains}
@@ -22,11 +23,11 @@ use Rattle.cs_code.proofs.{Resources.block_touch, Validity.code_valid, Validity.
 use Rattle.cs_typed.specs.TypedTree as typed
 use Rattle.cs_code.specs.declared.frame.Pass.TheVariants as pass
 
--- one list names what it names
+-- equal lists name the same resources
 alike : (xs ys : List Res) → xs ≡ ys → NameTheSame xs ys
 alike xs ys e g = (subst (λ l. Contains l g) e, subst (λ l. Contains l g) (sym e))
 
--- What the making of two codes of a block answers.
+-- The facts about two generated codes of a block.
 pub record Made (spaces : Spaces) (t : typed.Block) (counts : Counts) (init perf : List Op) : Type 0 where
   pub init_is : init ≡ init_block_code 0 start (core spaces t)
   pub perf_is : perf ≡ perf_block_code 0 start (core spaces t)
@@ -70,7 +71,7 @@ module _ (spaces : Spaces) (s : Setting) (t : typed.Block) (rated : IsRatedBlock
       (subst (λ ops. Means (core spaces t) (init_block_code 0 start (core spaces t)) ops) (sym made.perf_is)
       (means_its_tree spaces s t rated))
 
-  -- the promise of an instrument, of any two codes with these ops and counts
+  -- the contract of an instrument, for any two codes with these ops and counts
   pub made_code : (a b : Code) → a.ops ≡ init → a.counts ≡ counts
       → b.ops ≡ perf → b.counts ≡ counts → IsCodeOf spaces s.channels t a b
   made_code a b ops_a counts_a ops_b counts_b = record {
@@ -104,13 +105,13 @@ module _ (spaces : Spaces) (s : Setting) (t : typed.Block) (rated : IsRatedBlock
 
 -- ---- instruments in the order of the text
 
--- the same codes
+-- equal codes
 pub code_same : (spaces : Spaces) (channels : ℕ) (t : typed.Block) (a b init perf : Code) → a ≡ init → b ≡ perf
     → IsCodeOf spaces channels t init perf → IsCodeOf spaces channels t a b
 code_same spaces channels t a b init perf e h code =
     subst (λ x. IsCodeOf spaces channels t x b) (sym e) (subst (λ x. IsCodeOf spaces channels t init x) (sym h) code)
 
--- a body under one number more
+-- a body under one more number
 pub one_numbered : (spaces : Spaces) (channels : ℕ) (t : typed.Block) (ps : List (ℕ × typed.Block)) (ns : List ℕ)
     (i d : ℕ) (list : List Numbered) (x : Numbered)
     → i < length ns → AllZip (IsNumberedCode spaces channels) (ps ++ numbered_with t (take i ns)) list
@@ -126,7 +127,7 @@ one_numbered spaces channels t ps ns i d list x low h number code =
     (zip_one (IsNumberedCode spaces channels) (ps ++ numbered_with t (take i ns)) list (with (get_or ns i d)) x h
     (number, code))
 
--- the bodies of one instrument more
+-- the bodies of one more instrument
 pub bodies_more : (rs : List typed.Block) (xs : List TypedInstr) (i : ℕ) (x : TypedInstr)
     → i < length xs → x ≡ get_or xs i x
     → bodies (map (typed.instrument rs) (take (i + 1) xs)) ≡ bodies (map (typed.instrument rs) (take i xs))
@@ -139,7 +140,7 @@ bodies_more rs xs i x low is =
     ∙ ap (λ y. bodies before ++ (of (typed.instrument rs y) ++ [])) (sym is)
     ∙ ap (λ l. bodies before ++ l) (append-nil (of (typed.instrument rs x)))
 
--- a fact on all instruments, at one of them
+-- a fact about all instruments holds for one of them
 pub at_instrument : (rs : List typed.Block) (P : typed.Instrument → Type 0) (xs : List TypedInstr)
     (i : ℕ) (x : TypedInstr) → All P (map (typed.instrument rs) xs) → i < length xs
     → x ≡ get_or xs i x → P (typed.instrument rs x)
@@ -148,7 +149,7 @@ at_instrument rs P xs i x all low is =
     subst P (get_or-map (typed.instrument rs) xs i x (typed.instrument rs x) low ∙ ap (typed.instrument rs) (sym is))
     (all i (typed.instrument rs x) (omega arith))
 
--- numbers of instruments are those of the text
+-- the numbers of instruments are the numbers in the text
 zip_numbers : (spaces : Spaces) (channels : ℕ) (ps : List (ℕ × typed.Block)) (list : List Numbered)
     → AllZip (IsNumberedCode spaces channels) ps list → numbers_of list ≡ map (λ (p : ℕ × typed.Block). p.0) ps
 zip_numbers spaces channels [] [] h = refl

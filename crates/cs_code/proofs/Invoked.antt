@@ -1,4 +1,4 @@
--- Routines that are made, and what a routine does that is invoked.
+-- Routines that are generated, and the code of a routine that is invoked.
 use Rattle.std.proofs.Common.{◌≡◌, ◌∙◌, ◌≤◌, ◌++◌, ℕ, zero, suc, true, false, List, [], ◌∷◌, Some, length, map, get_or}
 use Rattle.std.proofs.{Common.arith, Common.refl, Common.sym, Common.ap, Common.ap₂, Math.Dec.ltb}
 use Rattle.std.proofs.lemmas.{Bool.ltb-true, Bool.ltb-false, List.map-append, Option.none-some, Option.slice_get-get_or}
@@ -51,7 +51,7 @@ module _ (f : typed.Block → Progress) where
 
 module _ (way : Pass) (spaces : Spaces) (rs : List typed.Block) (made : List (List Op)) (extents : List Progress)
     (serve : Serve way spaces rs made extents) (k : ℕ) where
-  -- what is read at a number, and what is done where there is nothing
+  -- the extent that is read at a number is the routine's
   pub extent_is : (e : Progress) → true ≡ ltb k (length extents) → e ≡ get_or extents k e
       → past_block start (core spaces (typed.routine_at rs k)) ≡ e
   extent_is e low is =
@@ -63,7 +63,7 @@ module _ (way : Pass) (spaces : Spaces) (rs : List typed.Block) (made : List (Li
       extent_missing (λ b. past_block start (core spaces b)) rs k
       (let h = ltb-false k (length extents) (sym high) in omega (arith, h, ap length serve.extents))
 
-  -- a call appends what its routine does
+  -- a call appends the code of its routine
   pub invoked_code : (place : ℕ) (p : Progress) (base : PerRate ℕ) (c : Call) → c.routine ≡ k → c.locals ≡ base
       → c.kept ≡ p.part → c.unit ≡ p.unit → moved_ops (window_of c) place (ops_at made c.routine)
       ≡ pass_block_code way place p (invoked_in (scope_of spaces rs) k base)
@@ -82,7 +82,7 @@ module _ (way : Pass) (spaces : Spaces) (rs : List typed.Block) (made : List (Li
   invoked_past p e q base low is further =
       further ∙ sym (ap (further_on p) (extent_is e low is)) ∙ sym (routine_past spaces base p (typed.routine_at rs k))
 
-  -- and where there is none, nothing
+  -- a call of a routine that doesn't exist appends nothing
   pub nothing_invoked : (place : ℕ) (p : Progress) (base : PerRate ℕ) → false ≡ ltb k (length extents)
       → pass_block_code way place p (invoked_in (scope_of spaces rs) k base) ≡ []
   nothing_invoked place p base high =

@@ -1,4 +1,5 @@
--- The letters of a unit's arguments: as many settled values as its row takes, and values that move as its letters say.
+-- The letters of a unit's arguments: as many settled values as its row takes, and moving values that its
+-- letters accept.
 use Rattle.std.proofs.Common.{◌≡◌, ◌∙◌, refl, sym, ap, subst, ℕ, zero, suc, ◌+◌, ◌-◌, ◌≤◌, ◌%◌, ◌==◌, Bool, true, false}
 use Rattle.std.proofs.Common.{not, ◌&&◌, ◌||◌, List, [], ◌∷◌, ◌++◌, length, nat_le, slice_get, if◌then◌else◌, arith}
 use Rattle.std.specs.{Prelude.filter, List.list_all, List.list_any, Option.unwrap_or}
@@ -24,18 +25,18 @@ use Rattle.cs_words.specs.declared.catalogue.Opcode.TheVariants as op
 use Rattle.cs_words.specs.declared.catalogue.Shape.TheVariants as shape
 use Rattle.cs_typed.specs.TypedTree as typed
 
--- letters take values of these rates, one each
+-- letters accept values of these rates, one each
 abbrev pub take_rates : List Letter → Rate → List Expression → Bool
 take_rates [] bound [] = true
 take_rates (l ∷ ls) bound (e ∷ es) = takes l bound (node_rate e) && take_rates ls bound es
 take_rates _ bound _ = false
 
--- all values are of rate Init
+-- all values are i-rate
 abbrev pub stills : List Expression → Bool
 stills [] = true
 stills (e ∷ es) = is_init (node_rate e) && stills es
 
--- the letter of a place, and those of so many places
+-- the letter of a place, and the letters of the first n places
 abbrev letter_in : List Letter → More → ℕ → Letter
 letter_in ls m n = unwrap_or (slice_get ls n) (further m (n - length ls))
 
@@ -113,7 +114,7 @@ counts row bound n (typed.text v ∷ rest) h =
     text_counts (letter_at row n) (letters row.fixed row.more (n + 1) (length rest)) (settled row (n + 1) rest) b.0
     (counts row bound (n + 1) rest b.1)
 
--- ---- the letters are those that must be given and what follows
+-- ---- the required letters, followed by the repeated ones
 
 shift : (l : Letter) (ls : List Letter) (m : More) (n k : ℕ) → letters (l ∷ ls) m (suc n) k ≡ letters ls m n k
 shift l ls m n zero = refl
@@ -188,7 +189,7 @@ takes_so row n j h f e =
     and_from _ _ (least (length (settled_letters row)) n (omega (arith, e)))
     (rw h (subst (λ t. may_follow row.more t ≡ true) d f))
 
--- What a call gives its unit, where all that may follow is settled.
+-- The arguments of a unit's call, if all arguments that may follow are settled.
 pub record FitsUnit (row : Row) (bound : Rate) (args : List typed.Argument) : Type 0 where
   pub count : unit_takes row (length (settled row 0 args)) ≡ true
   pub settled : stills (settled row 0 args) ≡ true
@@ -214,7 +215,8 @@ fit row bound args h c l =
       moving = subst (λ t. take_rates t bound (moving row 0 args) ≡ true) same (moves row bound 0 args l);
     }
 
--- What runs with values that move is a unit, or reads or writes zak places. What may follow its arguments is settled.
+-- An opcode that runs with moving values is a unit, or reads or writes zak places. Arguments that may follow
+-- are settled.
 abbrev pub is_run : Shape → Bool
 is_run sh = is_unit sh || is_zak sh
 
@@ -226,7 +228,7 @@ pub run_fits : (o : Opcode) (bound : Rate) (args : List typed.Argument) → is_r
     → FitsUnit (row_of o) bound args
 run_fits o bound args h c l = fit (row_of o) bound args (run_follows o h) c l
 
--- ---- the rate at which it runs
+-- ---- the rate of a unit
 
 not_starting : (sh : Shape) → is_run sh ≡ true → is_starting sh ≡ false
 not_starting shape.Init h = absurd (cc)
@@ -238,7 +240,7 @@ result_rate : (b : Bool) (r q : Rate) → b ≡ false → r ≡ (if b then rate.
 result_rate true r q h e = absurd (cc)
 result_rate false r q h e = e
 
--- it is one that its opcode's result may have
+-- the rate is one that its opcode's result may have
 pub may_run : (s : Setting) (r : Rate) (vs : List Var) (o : Opcode) (args : List typed.Argument)
     → IsRatedCall s r vs o args → is_run (row_of o).shape ≡ true → may_run_at (row_of o) r ≡ true
 may_run s r [] o args h u = or_left _ _ (subst (λ n. (n == 0) ≡ true) h.results refl)
@@ -252,7 +254,7 @@ may_run s r (v ∷ vs) o args h u =
 unequal : (n m : ℕ) → suc n ≡ m → (m == 0) ≡ false
 unequal n m e = grind (arith, nat_tests)
 
--- its arguments are bounded by its own rate
+-- the rates of its arguments are bounded by its own rate
 pub same_bound : (s : Setting) (r : Rate) (vs : List Var) (o : Opcode) (args : List typed.Argument)
     → IsRatedCall s r vs o args → is_run (row_of o).shape ≡ true → bound_by vs ≡ bound_at (row_of o) r
 same_bound s r [] o args h u = let e : (result_count (row_of o) == 0) ≡ true =
@@ -261,7 +263,7 @@ same_bound s r (v ∷ vs) o args h u =
     rw (unequal (length vs) (result_count (row_of o)) h.results)
     (sym (result_rate (is_starting (row_of o).shape) r (var_rate v) (not_starting (row_of o).shape u) h.done))
 
--- ---- a table is stored to evenly
+-- ---- a store's rate fits its operands
 
 even : (r p q t : Rate) → (if is_audio p then is_audio q else not (is_audio q)) ≡ true → is_init t ≡ true
     → r ≡ (if is_init p && (is_init q && (is_init t && true)) then rate.Init else
@@ -275,7 +277,7 @@ even r rate.Control rate.Control rate.Init h i e = rw e refl
 even r rate.Audio rate.Audio rate.Init h i e = rw e refl
 even r p q t h i e = absurd (cc)
 
--- what a call gives a store
+-- the arguments of a store's call
 pub record FitsStore (r : Rate) (args : List typed.Argument) : Type 0 where
   pub stores : stores_with r (rated (values_of args)) ≡ true
   pub still : stills (settled (row_of op.Tablew) 0 args) ≡ true

@@ -1,4 +1,4 @@
--- Lists of expressions and arguments, and lists side by side.
+-- Lists of expressions and arguments, and pairs of lists.
 use Rattle.std.proofs.Common.{◌≡◌, ◌∙◌, ◌+◌, ◌<◌, ◌++◌, ◌∷◌, drop, get_or, ℕ, Bool, true, false, not, cond, List, []}
 use Rattle.std.proofs.Common.{length, refl, sym, ap}
 use Rattle.std.proofs.lemmas.List.{append_assoc, append-nil, drop_more}
@@ -15,13 +15,13 @@ use Rattle.cs_code.specs.inner.Emitted.{expressions_of, taken}
 pub append_nothing : {A : Type 0} (xs : List A) → xs ++ [] ≡ xs
 append_nothing xs = append-nil xs
 
--- one value more
+-- one more value
 pub expressions_more : (es : List (Bor TypedExpr)) (e : Bor TypedExpr)
     → expressions_of (es ++ e ∷ []) ≡ expressions_of es ++ expression e.now ∷ []
 expressions_more [] e = refl
 expressions_more (x ∷ es) e = ap (λ l. expression x.now ∷ l) (expressions_more es e)
 
--- the first argument, and those that follow
+-- the first argument, followed by the later ones
 taken_or : (b : Bool) (e : Expression) (xs : List Expression) → cond b (e ∷ xs) xs ≡ cond b (e ∷ []) [] ++ xs
 taken_or true e xs = refl
 taken_or false e xs = refl
@@ -40,7 +40,7 @@ moving_step : (row : Row) (n : ℕ) (a : Argument) (rest : List Argument) → mo
 moving_step row n (value e) rest = left_or (is_settled (letter_at row n)) e (moving row (n + 1) rest)
 moving_step row n (text v) rest = refl
 
--- one argument more, in the loop that parts them
+-- one more argument in the loop that divides arguments into settled and moving ones
 pub settled_more : (row : Row) (args : List Argument) (n m : ℕ) (a : Argument) (rest : List Argument) (take : Bool)
     (es new total : List Expression)
     → args ≡ a ∷ rest → take ≡ is_settled (letter_at row n) → m ≡ n + 1 → new ≡ es ++ taken take a
@@ -71,7 +71,7 @@ values_more args a rest es new total split made was =
     ap (λ k. k ++ values_of rest) made ∙ append_assoc es (taken true a) (values_of rest)
     ∙ ap (λ k. es ++ k) (sym (values_step a rest)) ∙ ap (λ k. es ++ values_of k) (sym split) ∙ was
 
--- one value more, in the loops that make code
+-- one more value in the loops that emit code
 pub operands_more : (when : When) (at now d next : ℕ) (es : List Expression) (e : Expression) (rest : List Expression)
     → es ≡ e ∷ rest → now ≡ past at e → next ≡ d + 1
     → operands_code when at es d ≡ operand_code when at e d ++ operands_code when now rest next
@@ -95,12 +95,12 @@ pub keep_more : (at now : ℕ) (es : List Expression) (e : Expression) (rest : L
 keep_more at now es e rest split past_it =
     ap (keep_all_code at) split ∙ sym (ap (λ k. keep_code at e ++ keep_all_code k rest) past_it)
 
--- what is left of a list, and what is left after its first
+-- the rest of a list, and the rest after its first item
 pub dropped : {A : Type 0} (xs : List A) (i : ℕ) (x : A) → i < length xs → x ≡ get_or xs i x
     → drop i xs ≡ x ∷ drop (i + 1) xs
 dropped xs i x lt e = drop_more xs i x lt ∙ ap (λ y. y ∷ drop (i + 1) xs) (sym e)
 
--- ---- lists side by side
+-- ---- pairs of lists
 
 module _ {A B : Type 0} (R : A → B → Type 0) where
   pub zip_append : (xs ys : List A) (us bs : List B) → AllZip R xs us → AllZip R ys bs → AllZip R (xs ++ ys) (us ++ bs)

@@ -1,4 +1,4 @@
--- The codes of a note mean its tree, in every world whose notes are refused only as they begin.
+-- The codes of a note mean its tree, in every world that refuses notes only as they begin.
 use Rattle.std.proofs.Common.{ℕ, [], ◌∷◌, Option, refl, arith}
 use Rattle.cs_ir.specs.{Machine.new_machine, Machine.again, Worlds.World}
 use Rattle.cs_base.specs.declared.spaces.Spaces.{Spaces}
@@ -23,7 +23,7 @@ means_in o quiet placed distinct body suits lays = record {
       lays).stands;
 }
 
--- and so in the plain world of every piece a well rated block
+-- the codes of a well-rated block mean its tree in the plain world of every piece
 pub means_its_tree : (spaces : Spaces) (s : Setting) (b : typed.Block) → IsRatedBlock s b
     → Means (core spaces b) (init_block_code 0 start (core spaces b)) (perf_block_code 0 start (core spaces b))
 means_its_tree spaces s b rated =

@@ -1,4 +1,4 @@
--- The code of statements with other local variables, further in a text: the same code, moved.
+-- The code of statements with other local variables, at a later place of a text, is the same code, moved.
 use Rattle.std.proofs.Common.{◌≡◌, ◌∙◌, ◌+◌, ◌++◌, ℕ, Bool, true, false, List, [], ◌∷◌, length, map, Option, Some, None}
 use Rattle.std.proofs.Common.{if◌then◌else◌, refl, sym, ap, ap₂, subst, arith}
 use Rattle.std.proofs.lemmas.List.{map-append, length-map}
@@ -33,7 +33,7 @@ rate_stays : (l : PerRate ℕ) (e : Expression) → node_rate (moved_expression 
 rate_stays l (number r n) = refl
 rate_stays l a = refl
 
--- ops, and what they are elsewhere
+-- ops, and the ops that they become when moved
 record Moves (k : Op → Op) (old new : List Op) : Type 0 where
   pub same : new ≡ map k old
 
@@ -49,7 +49,7 @@ more h i = record { same = ap₂ ◌∷◌ h i.same }
 one : {k : Op → Op} {x x' : Op} → x' ≡ k x → Moves k (x ∷ []) (x' ∷ [])
 one h = more h nothing_moves
 
--- operands, one after another, and an op behind them
+-- operands one after another, followed by an op
 after_one : {k : Op → Op} {a a' : List Op} {x x' : Op} → Moves k a a' → x' ≡ k x
     → Moves k (a ++ (x ∷ [])) (a' ++ (x' ∷ []))
 after_one h e = join h (one e)
@@ -119,13 +119,13 @@ module _ (w : Begins) (origin : ℕ) where
   temp_is : (e : Expression) (d : ℕ) → temp (node_rate (E e)) d ≡ m (temp (node_rate e) d)
   temp_is e d = ap (λ r. temp r d) (rate_stays l e) ∙ temp_moved (node_rate e) d
 
-  -- ---- where values stand
+  -- ---- the registers that hold values
 
   local_is : (e : Expression) → local_of (E e) ≡ option_map m (local_of e)
   local_is (var r (Local q n)) = ap Some (local_moved q n)
   local_is a = refl
 
-  -- the number of the next kept value, where it is read
+  -- the number of the next kept value, if kept values are read
   abbrev Counts : When → ℕ → ℕ → Type 0
   Counts when at at' = Reads when (at' ≡ w.kept + at)
 
@@ -163,7 +163,7 @@ module _ (w : Begins) (origin : ℕ) where
 
   -- ---- expressions
 
-  -- nothing where a value stands already, else its code
+  -- the code of a value, or nothing if it is in a register already
   part_is : (when : When) (e : Expression) (at at' : ℕ) → Counts when at at' → (d : ℕ)
       → Same (own when at e (temp (node_rate e) d) d) (own when at' (E e) (temp (node_rate (E e)) d) d)
       → Same (operand_code when at e d) (operand_code when at' (E e) d)
@@ -220,7 +220,7 @@ module _ (w : Begins) (origin : ℕ) where
       by (Some q) = one (ap (λ y. op_of act.Copy y (m q ∷ [])) i)
       by None = own_is when e at at' h x x' i d
 
-  -- ---- what is kept
+  -- ---- kept values
 
   kept_is : (e : Expression) (at at' : ℕ) → at' ≡ w.kept + at → Same (kept_code at e) (kept_code at' (E e))
   kept_is e at at' h = code_is beginning e 0 0 tt (kept_reg at) (kept_reg at') (ap kept_reg h) 0
@@ -270,7 +270,7 @@ module _ (w : Begins) (origin : ℕ) where
       (one (ap₂ (λ y z. op_of act.Copy y (z ∷ [])) (local_moved q n) (temp_moved r 0)))
   given_is r (Global g ∷ vs) = one (ap (λ y. op_of (act.Save g) y (y ∷ [])) (temp_moved r 0))
 
-  -- an op on values, by what its act is elsewhere
+  -- an op on values, whose act is moved
   on_is : (when : When) (a a' : Act) (into into' : Reg) (es : List Expression) (at at' : ℕ) → Counts when at at'
       → a' ≡ moved_act w origin a → into' ≡ m into
       → Same (on_code when at a into es) (on_code when at' a' into' (map E es))
@@ -325,7 +325,7 @@ module _ (w : Begins) (origin : ℕ) where
 
   -- ---- statements
 
-  -- a place of the text and of the code, and where it stands elsewhere
+  -- a place of the text and of the code, and the place that it becomes when moved
   record Both (p p' : Progress) (at at' : ℕ) : Type 0 where
     pub text : Further (record { part = w.kept; unit = w.unit }) p p'
     pub place : at' ≡ origin + at
@@ -460,7 +460,7 @@ module _ (w : Begins) (origin : ℕ) where
         let b₂ = both_on q q' z z' (at + long) (at' + long') body (block_further l _ q q' y b₁.text) b₁ in
         join cond (join body (all_are (at + long + on) (at' + long' + on') z z' rest b₂))
 
--- The code of what a routine does that is invoked, at its place in a text and with its own local variables: the
+-- The code of a routine's statements at the place of a call, with the call's local variables, is the
 -- routine's own code, moved.
 pub routine_moved : (way : Pass) (spaces : Spaces) (base : PerRate ℕ) (place : ℕ) (p : Progress) (x : typed.Block)
     → pass_block_code way place p (core spaces (typed.moved_block base x))
@@ -474,7 +474,7 @@ routine_moved way spaces base place p x =
     ap (pass_block_code way place p) (core_moved base spaces x) ∙ (block_is w place way 0 place start p (core spaces x)
     (record { text = record { part = part; unit = unit }; place = begins })).same
 
--- and what is met up to its end
+-- the progress after the routine at the place of a call
 pub routine_past : (spaces : Spaces) (base : PerRate ℕ) (p : Progress) (x : typed.Block)
     → past_block p (core spaces (typed.moved_block base x)) ≡ further_on p (past_block start (core spaces x))
 routine_past spaces base p x = ap (past_block p) (core_moved base spaces x) ∙ stmts_past base p (core spaces x)

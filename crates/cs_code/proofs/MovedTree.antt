@@ -1,5 +1,5 @@
--- Statements with other local variables: what they are short for, and what is met up to their ends, so many kept values
--- and units wherever they stand.
+-- Statements with other local variables have the same core statements, and as many kept values and units at
+-- every place.
 use Rattle.std.proofs.Common.{◌≡◌, ◌∙◌, ◌+◌, ℕ, Bool, true, false, List, [], ◌∷◌, map, arith, Option, Some, None}
 use Rattle.std.proofs.Common.{if◌then◌else◌, refl, sym, ap, ap₂}
 use Rattle.std.specs.Option.{option_map}
@@ -25,7 +25,7 @@ use Rattle.cs_words.specs.declared.catalogue.Space.TheVariants as space
 use Rattle.cs_ir.specs.declared.op.Reach.TheVariants as reach
 use Rattle.cs_typed.specs.TypedTree as typed
 
--- statements with other local variables, one, those of a block and those of arms
+-- core statements with other local variables: a statement, a block, and arms
 abbrev mutual
   pub moved_stmt : PerRate ℕ → Stmt → Stmt
   moved_stmt l (set r v e) = set r (moved_variable l v) (moved_expression l e)
@@ -64,7 +64,7 @@ none_more n = omega arith
 unit_more : (n u k : ℕ) → k ≡ n + u → k + 1 ≡ n + (u + 1)
 unit_more n u k h = omega (arith, h)
 
--- a place of a text, so far behind one of another as that is behind the start
+-- a progress y that is as far after n as x is after the start
 pub record Further (n x y : Progress) : Type 0 where
   pub part : y.part ≡ n.part + x.part
   pub unit : y.unit ≡ n.unit + x.unit
@@ -97,7 +97,7 @@ module _ (l : PerRate ℕ) where
   all_grown [] n at k h = h
   all_grown (e ∷ es) n at k h = all_grown es n (past at e) (past k (E e)) (past_grown e n at k h)
 
-  -- ---- of statements
+  -- ---- the progress of statements
 
   parts_further : {n x y : Progress} (r : Rate) (p q : ℕ) → q ≡ n.part + p → Further n x y
       → Further n (past_parts (if_init r x.part p) x) (past_parts (if_init r y.part q) y)
@@ -143,7 +143,7 @@ module _ (l : PerRate ℕ) where
   stmts_past p b =
       advanced_is p (past_block start b) (past_block p (moved_stmts l b)) (block_further p start p b (from_start p))
 
--- ---- a call with other local variables is short for the same
+-- ---- the core statement of a call with other local variables
 
 module _ (l : PerRate ℕ) where
   abbrev F : Expression → Expression
@@ -175,7 +175,7 @@ module _ (l : PerRate ℕ) where
       ∙ if_moved (is_settled (letter_at row n)) (moving row (n + 1) args) (e ∷ moving row (n + 1) args)
   moving_moved row n (text c ∷ args) = moving_moved row (n + 1) args
 
-  -- what may be touched
+  -- the reach is unchanged
   table_stays : (es : List Expression) → table_reach (map F es) ≡ table_reach es
   table_stays (number r v ∷ es) = refl
   table_stays es = refl
@@ -247,7 +247,7 @@ module _ (l : PerRate ℕ) where
   effect_moved o r vs op shape.Ask args = ap ask (values_moved args)
   effect_moved o r vs op a args = refl
 
-  -- a call that is short for an assignment
+  -- a call whose core statement is an assignment
   abbrev moved_assigned : Assigned → Assigned
   moved_assigned a = record { done = a.done; to = moved_variable l a.to; value = F a.value }
 

@@ -1,4 +1,4 @@
--- What the code of a note may name: its units by number, and channels that the piece has.
+-- The units and channels that a note's code may name.
 use Rattle.std.proofs.Common.{◌≡◌, ℕ, zero, suc, ◌+◌, ◌≤◌, Bool, true, false, not, ◌||◌, List, [], ◌∷◌, ◌++◌, length}
 use Rattle.std.proofs.Common.{Some, if◌then◌else◌, slice_get, refl, ◌∙◌, ap, arith, length-append}
 use Rattle.cs_base.proofs.Rates.{same_rate_is}
@@ -30,7 +30,7 @@ back_at (y ∷ a) b i x h =
     let e : length (y ∷ a) + i ≡ suc (length a + i) = omega arith in
     ap (slice_get ((y ∷ a) ++ b)) e ∙ back_at a b i x h
 
--- a part of a list stands at a place of the whole
+-- the items of a part of a list are at places of the complete list
 abbrev pub At : List UnitKind → ℕ → List UnitKind → Type 0
 At units k part = (i : ℕ) (x : UnitKind) → slice_get part i ≡ Some x → slice_get units (k + i) ≡ Some x
 
@@ -71,7 +71,7 @@ mutual
       let both = length-append (block_units b) (arms_units rest) in
       omega arith
 
--- ---- channels: no more values go out than there are
+-- ---- channels: at most as many values are output as there are channels
 
 abbrev mutual
   pub Narrow : ℕ → Stmt → Type 0
@@ -87,7 +87,7 @@ abbrev mutual
   NarrowArms channels (otherwise b) = NarrowBlock channels b
   NarrowArms channels (arm c b rest) = NarrowBlock channels b × NarrowArms channels rest
 
--- a unit's result is written at the unit's rate
+-- a unit's result has the unit's rate
 pub target_rate : (r : Rate) (vs : List Variable) → rate_at (target r vs) ≡ r
 target_rate r (Local q x ∷ vs) = into (same_rate q r) refl
   where
@@ -96,6 +96,7 @@ target_rate r (Local q x ∷ vs) = into (same_rate q r) refl
     into false e = temp_rate r
 target_rate r a = temp_rate r
 
--- what is done in a cycle starts no unit, looks for no table and asks for no note; as a note begins anything is done
+-- an act of a cycle starts no unit, looks up no table and schedules no note; as a note begins any act is
+-- allowed
 abbrev pub suits : Bool → Act → Bool
 suits cycles a = is_of_cycle a || not cycles

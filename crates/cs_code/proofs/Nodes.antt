@@ -21,7 +21,7 @@ pub rate_of_part : (r : Rate) (w : TypedPart) → node_rate (of_part r w) ≡ r
 rate_of_part r (Number v) = refl
 rate_of_part r a = refl
 
--- a value that stands somewhere already, and one that doesn't
+-- a value that is in a register already, and a value that isn't
 pub there_code : (when : When) (at : ℕ) (e : Expression) (d : ℕ) (q : Reg) → direct when at e ≡ Some q
     → operand_code when at e d ≡ []
 there_code when at e d q h = ap (λ o. unless_there o (own when at e (temp (node_rate e) d) d)) h
@@ -59,7 +59,7 @@ there_past when at (pick r c a b) q h = inner_past when r at (past (past (past a
 there_past when at (apply r g a) q h = inner_past when r at (past at a) q h
 there_past when at a q h = refl
 
--- the code of the kept parts of an expression that changes, and the number after theirs
+-- the code of the kept parts of an expression that changes, and the number after them
 abbrev pub parts_code : ℕ → Expression → List Op
 parts_code at (neg r a) = keep_code at a
 parts_code at (pair r b y z) = keep_code at y ++ keep_code (past at y) z
@@ -74,7 +74,7 @@ parts_past at (pick r c a b) = past (past (past at c) a) b
 parts_past at (apply r f a) = past at a
 parts_past at _ = at
 
--- an expression is kept as a whole or by its parts
+-- an expression is kept completely or by its parts
 pub keep_splits : (at : ℕ) (e : Expression) → keep_code at e ≡ if_init (node_rate e) (kept_code at e) (parts_code at e)
 keep_splits at (number r n) = refl
 keep_splits at a = refl
@@ -83,7 +83,7 @@ pub past_splits : (at : ℕ) (e : Expression) → past at e ≡ if_init (node_ra
 past_splits at (number r n) = refl
 past_splits at a = refl
 
--- of what changes the parts are kept
+-- only the parts of an expression that changes are kept
 goes_on : {A : Type 0} (q r : Rate) (x y : A) → q ≡ r → (r ≡ rate.Control) ⊎ (r ≡ rate.Audio) → if_init q x y ≡ y
 goes_on q r x y e (inl h) = ap (λ k. if_init k x y) (e ∙ h)
 goes_on q r x y e (inr h) = ap (λ k. if_init k x y) (e ∙ h)
@@ -98,7 +98,7 @@ keeps_parts at e moves =
       past_splits at k ∙ goes_on (node_rate k) e.rate (at + 1) (parts_past at k) is moves,
     )
 
--- and what doesn't change is kept as a whole
+-- an expression that doesn't change is kept completely
 pub kept_whole : (at : ℕ) (e : TypedExpr) → e.rate ≡ rate.Init
     → (keep_code at (expression e) ≡ kept_code at (expression e)) × (past at (expression e) ≡ at + 1)
 kept_whole at e once =
@@ -108,14 +108,14 @@ kept_whole at e once =
       past_splits at k ∙ ap (λ q. if_init q (at + 1) (parts_past at k)) is,
     )
 
--- the number after a value's own, by that after its parts
+-- the number after a value, from the number after its parts
 pub made_past : {E : Type 0} (r : Result ℕ E) (at n : ℕ) (e k : Expression) → e ≡ k → n ≡ parts_past at k
     → IfOk r (λ m. m ≡ if_init (node_rate k) (at + 1) n) → IfOk r (λ m. m ≡ past at e)
 made_past r at n e k is parts h =
     subst (λ x. IfOk r (λ m. m ≡ x))
     (ap (if_init (node_rate k) (at + 1)) parts ∙ sym (past_splits at k) ∙ sym (ap (past at) is)) h
 
--- An operand and the op on it; two operands one after another; and three.
+-- One operand and the op on it; two operands one after another; and three.
 pub made_one : (when : When) (at d : ℕ) (o : Act) (e k y : Expression) (x p : Reg) (from : List Reg)
     (old first new : Draft)
     → e ≡ k → own when at k x d ≡ operand_code when at y d ++ (op_of o x (spot when at y d ∷ []) ∷ [])
@@ -162,10 +162,10 @@ made_pick when at next last d one two r e v y z x o p q from old first second th
     ∙ sym (ap (λ k. own when at k x d) is))
     (grew_on old first new _ _ a (grew_on first second new _ _ b (grew_on second third new _ _ c op)))
 
--- what stands somewhere already, and what is made
+-- a value that is in a register already, and a value that is computed
 pub ruleset nodes = (there_code, there_spot, there_past, made_code, made_spot)
 
 pub ruleset copies = (there_copied, made_copied, there_past)
 
--- the kept parts of an expression, by whether it changes
+-- the kept parts of an expression that changes or doesn't
 pub ruleset splits = (rate_of_part, keep_splits, past_splits)

@@ -1,4 +1,4 @@
--- Kept values have numbers of their own, and units are numbered by those in front of them.
+-- Kept values have different numbers, and units are numbered by the units before them.
 use Rattle.std.proofs.Common.{◌≡◌, ◌∙◌, ℕ, zero, suc, ◌+◌, ◌<◌, ◌≤◌, List, [], ◌∷◌, ◌++◌, Option, Some, refl, sym, ap}
 use Rattle.std.proofs.Common.{arith, le_trans, add-zero, append-nil}
 use Rattle.std.proofs.lemmas.Option.{none-some}
@@ -63,7 +63,7 @@ mutual
 
 -- ---- numbers of different paths differ
 
--- Numbers from one on and in front of another, each of one path.
+-- The numbers are at least `from` and below `end`, and each belongs to one path.
 record Ranged (from end : ℕ) (n : Path → Option ℕ) : Type 0 where
   range : (q : Path) (k : ℕ) → n q ≡ Some k → (from ≤ k) × (k < end)
   apart : (q r : Path) (k : ℕ) → n q ≡ Some k → n r ≡ Some k → q ≡ r
@@ -103,7 +103,7 @@ parts_ranged from mid end n m low high a b = record { range = range; apart = apa
         absurd (let x = (a.range r k f).1 in let y = (b.range (j ∷ q) k e).0 in omega arith)
     apart (suc j ∷ q) (suc i ∷ r) k e f = ap next (b.apart (j ∷ q) (i ∷ r) k e f)
 
--- parts behind which nothing more is kept
+-- parts after which nothing more is kept
 last_ranged : (from end : ℕ) (n : Path → Option ℕ) → from ≤ end → Ranged from end n → Ranged from end (parts n nowhere)
 last_ranged from end n low h = parts_ranged from end end n nowhere low (omega arith) h (nowhere_ranged end end)
 
@@ -199,7 +199,7 @@ same_inward p q e = sym (outward_again p) ∙ ap (λ r. inward r []) e ∙ outwa
 
 -- ---- the registers of a block
 
--- what a block keeps has its registers
+-- the values that a block keeps have their registers
 pub registers_lay : (b : Block) → LaysOn (registers b) (0 ∷ []) (block_numbers start b)
 registers_lay b k q =
     ap (block_numbers start b)
@@ -209,11 +209,11 @@ registers_lay b k q =
     at_front : (k n : ℕ) (q : Path) → inward (behind k (n ∷ [])) q ≡ (k + n) ∷ q
     at_front k n q = ap (λ p. inward p q) (behind_is k n [])
 
--- and no two values have the same
+-- no two values have the same register
 pub registers_apart : (b : Block) → AreApart (registers b)
 registers_apart b p q n e f = same_inward p q ((block_ranged start b).apart (inward p []) (inward q []) n e f)
 
--- ---- a condition that is kept as a whole
+-- ---- a condition that is kept completely
 
 still_once : (at : ℕ) (r : Rate) (n : Path → Option ℕ) → r ≡ rate.Init → if_init r (itself at) n [] ≡ Some at
 still_once at r n h = ap (λ q. if_init q (itself at) n []) h

@@ -1,4 +1,4 @@
--- Values that go out, one register after another.
+-- Values that are output, one register after another.
 use Rattle.std.proofs.Common.{◌≡◌, ◌∙◌, ◌+◌, ◌<◌, ◌++◌, ◌∷◌, [], ℕ, List, Option, Some, None, drop, get_or, length, ap}
 use Rattle.std.proofs.Common.{option_to_list, subst, sym}
 use Rattle.std.proofs.lemmas.List.{drop_more}
@@ -39,7 +39,7 @@ module _ (old here there : Draft) (i : ℕ) (qs : List Reg) (d : Reg) (was now :
       (out_at_ops rest) whole leads (subst (λ l. Grew here next (op_of act.OutAt q l ∷ [])) both grew)
       (ap out_at_ops (ap (λ o. option_to_list o ++ drop i qs) some ∙ ap (λ l. p ∷ l) (drop_more qs i d low)))))
 
--- a number with no value is left over
+-- a channel number without a value is left over
 pub out_at_end : (o : Option Reg) (rest : List Reg) → rest ≡ [] → out_at_ops (option_to_list o ++ rest) ≡ []
 out_at_end None rest none = ap out_at_ops none
 out_at_end (Some q) rest none = ap (λ l. out_at_ops (q ∷ l)) none

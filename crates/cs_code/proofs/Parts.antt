@@ -1,4 +1,4 @@
--- The code of assignments, kept parts and units does what they mean.
+-- The code of assignments, kept parts and units has the effect of their meaning.
 use Rattle.std.proofs.Common.{◌≡◌, ℕ, suc, ◌+◌, ◌≤◌, ℤ, Bool, true, false, List, [], ◌∷◌, ◌++◌, length, map, Option}
 use Rattle.std.proofs.Common.{Some, if◌then◌else◌, refl, sym, ◌∙◌, ap, subst, arith, le_trans}
 use Rattle.cs_base.proofs.{Rates.same_rate_is, Tests.by_test, Tests.some_is}
@@ -29,8 +29,8 @@ use Rattle.cs_code.proofs.Runs.{under_local, under_apart, local_not_kept, kept_n
 use Rattle.cs_base.specs.declared.resource.Rate.TheVariants as rate
 use Rattle.cs_ir.specs.declared.op.Act.TheVariants as act
 
--- What a note can do in a world without being refused: only the start of a unit, the search for a table, and a note
--- that it asks for, may be refused.
+-- The actions of a note that a world never refuses. Only the start of a unit, the lookup of a table, and a
+-- scheduled note may be refused.
 pub record Quiet {W : Type 0} (o : World W) : Type 0 where
   pub save : (g : Res) (w : Wave) (x : W) → o.refused (o.save g w x) ≡ o.refused x
   pub does : (opcode : Opcode) (r : Rate) (u : ℕ) (reach : Reach) (ws : List Wave) (x : W)
@@ -42,7 +42,7 @@ pub record Quiet {W : Type 0} (o : World W) : Type 0 where
   pub out_at : (k w : Wave) (x : W) → o.refused (o.out_at k w x) ≡ o.refused x
   pub turnoff : (x : W) → o.refused (o.turnoff x) ≡ o.refused x
 
--- A code has led to a note; and has done so without a touch on the world.
+-- A code has led to a note; and has done so without changing the world.
 pub record Reached {W : Type 0} (placed : Path → Option ℕ) (s : Note W) (m n : Machine W) : Type 0 where
   pub stands : StandsInMachine placed s n
   pub next : n.next ≡ m.next
@@ -60,7 +60,7 @@ live_kept o placed place more s m n l k = record {
 }
 
 module _ {W : Type 0} (o : World W) (placed : Path → Option ℕ) (distinct : AreApart placed) where
-  -- ---- what a register's writing, and the world's moving, mean for a note
+  -- ---- the effect on a note when a register is written and when the world changes
 
   pub local_wrote : (t : Note W) (r : Rate) (x : ℕ) (w : Wave) (m n : Machine W)
       → StandsInMachine placed t m → Wrote (reg r x) 0 w m n
@@ -102,7 +102,7 @@ module _ {W : Type 0} (o : World W) (placed : Path → Option ℕ) (distinct : A
     world = e;
   }
 
-  -- a write to a register, as the machine does it
+  -- a write to a register by the machine
   pub write_wrote : (q : Reg) (w : Wave) (m : Machine W)
       → Wrote q 0 (held o.ksmps (rate_at q) w) m (write o.ksmps q w m)
   write_wrote q w m = record {
@@ -123,7 +123,7 @@ module _ {W : Type 0} (o : World W) (placed : Path → Option ℕ) (distinct : A
   temp_holds r w m =
       put_here m.regs (temp r 0) (held o.ksmps (rate_at (temp r 0)) w) ∙ ap (λ q. held o.ksmps q w) (temp_rate r)
 
-  -- ---- what doesn't change is kept
+  -- ---- values that don't change are kept
 
   rate_runs : (r : Rate) (t s : Note W) (at : ℕ) (path : Path) (inner : Path → Option ℕ) (place : ℕ) (z : ℤ)
       (m : Machine W) (once each : List Op)
@@ -213,7 +213,7 @@ module _ {W : Type 0} (o : World W) (placed : Path → Option ℕ) (distinct : A
       (live_kept o placed place (length ops) t1 m n l first)
       (λ k q. lays (suc k) q))
 
-  -- ---- an op on values moves the world alone
+  -- ---- an op on values that only changes the world
 
   pub on_runs : (when : When) (at : ℕ) (path : Path) (a : Act) (into : Reg) (es : List Expression)
       (move : List Wave → W → W) (t : Note W) (place : ℕ) (m : Machine W)
@@ -267,9 +267,9 @@ module _ {W : Type 0} (o : World W) (placed : Path → Option ℕ) (distinct : A
       on_runs beginning 0 [] act.Ask (temp rate.Init 0) es (λ ws x. o.ask (first_values ws) x) t place m
       (λ ws n. refl) s l tt
 
-  -- ---- what gives a result runs: a unit, or what reads or writes zak places
+  -- ---- the run of an opcode with a result: a unit, or an opcode on zak places
 
-  -- no variable takes the result
+  -- the result is assigned to no variable
   none_given : (b : Bool) (r : Rate) (t : Note W) (x : W) (w : Wave) (m : Machine W) → StandsInMachine placed t m
       → Reached placed (moved_to x t) m (if b then write o.ksmps (temp r 0) w (in_world x m) else in_world x m)
   none_given true r t x w m s = record {
@@ -284,7 +284,7 @@ module _ {W : Type 0} (o : World W) (placed : Path → Option ℕ) (distinct : A
       → StandsInMachine placed (moved_to x t) (write o.ksmps (temp r 0) w (in_world x m))
   temp_moved r t x w m s = (none_given true r t x w m s).stands
 
-  -- a local variable takes the result: by the unit itself, or by a copy
+  -- the result is assigned to a local variable, by the unit itself or by a copy
   local_given : (b : Bool) (r q : Rate) (y : ℕ) (t : Note W) (x : W) (w : Wave) (place : ℕ) (m : Machine W)
       → same_rate q r ≡ b → StandsInMachine placed t m → m.next ≤ place → o.refused x ≡ false
       → Reached placed (assign o (Local q y) (held o.ksmps r w) (moved_to x t)) m
@@ -317,7 +317,7 @@ module _ {W : Type 0} (o : World W) (placed : Path → Option ℕ) (distinct : A
         next = refl;
       })
 
-  -- what notes share takes the result, by a store
+  -- the result is assigned to a shared resource, by a store
   global_given : (r : Rate) (g : Res) (t : Note W) (x : W) (w : Wave) (place : ℕ) (m : Machine W)
       → StandsInMachine placed t m → m.next ≤ place → o.refused x ≡ false
       → Reached placed (assign o (Global g) (held o.ksmps r w) (moved_to x t)) m
@@ -399,7 +399,7 @@ module _ {W : Type 0} (o : World W) (placed : Path → Option ℕ) (distinct : A
       run_runs when at path (act.Zak opcode reach) r vs opcode xs (o.zak opcode reach) t place m (λ into ws n is. refl)
       (λ ws x. quiet.zak opcode reach ws x) s l takes known
 
-  -- ---- a variable takes a value
+  -- ---- an assignment to a variable
 
   local_set : (b : Bool) (when : When) (at : ℕ) (path : Path) (q : Rate) (y : ℕ) (e : Expression) (t : Note W)
       (place : ℕ) (m : Machine W) → same_rate (node_rate e) q ≡ b → StandsInMachine placed t m → Live o place m

@@ -1,4 +1,4 @@
--- The code of a control cycle does what the statements do.
+-- The code of a control cycle has the same effect as the statements.
 use Rattle.std.proofs.Common.{◌≡◌, ℕ, suc, ◌+◌, Bool, true, false, List, [], ◌∷◌, ◌++◌, length, map, Option}
 use Rattle.std.proofs.Common.{if◌then◌else◌, refl, sym, ◌∙◌, ap, subst, arith, le_trans, length-append}
 use Rattle.cs_base.specs.declared.resource.Rate.{Rate}
@@ -100,7 +100,7 @@ module _ {W : Type 0} (o : World W) (quiet : Quiet o) where
         if_quiet (holds (value o t cycle (0 ∷ p.path) c 0)) t (perf_block o (inside_arm p) b t)
         (perf_arms o (past_arm p b) rest t) (block_quiet (inside_arm p) b t) (arms_quiet (past_arm p b) rest t)
 
--- ---- values go out
+-- ---- output
 
 module _ {W : Type 0} (o : World W) (quiet : Quiet o) where
   out_ops_run : (c : ℕ) (qs : List Reg) (place : ℕ) (m : Machine W) → Live o place m
@@ -129,7 +129,7 @@ module _ {W : Type 0} (o : World W) (quiet : Quiet o) (placed : Path → Option 
       → Agrees placed (place + length ops) s n
   reached t s place ops m n l h = record { stands = h.stands; next = (let e = h.next in let k = l.next in omega arith) }
 
-  -- operands, and then ops that move the world alone
+  -- operands, followed by ops that only change the world
   sent_from : (es : List Expression) (last : List Op) (send : List Wave → W → W) (t : Note W) (at : ℕ) (path : Path)
       (place : ℕ) (m : Machine W) → ((n : Machine W) → Live o (place + length (operands_code cycle at es 0)) n
       → run o (place + length (operands_code cycle at es 0)) last n ≡ in_world

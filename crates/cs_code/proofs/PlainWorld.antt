@@ -1,4 +1,4 @@
--- In the plain world a note is refused only as it begins.
+-- The plain world refuses a note only as it begins.
 use Rattle.std.proofs.Common.{◌≡◌, refl, ap}
 use Rattle.std.specs.Option.{is_some}
 use Rattle.cs_words.specs.Catalogue.{row_of}

@@ -1,4 +1,4 @@
--- Rates of expressions and statements, as far as their code needs them.
+-- The facts about the rates of expressions and statements that their code needs.
 use Rattle.std.proofs.Common.{◌≡◌, ◌≤◌, Bool, true, false, ◌&&◌, List, [], ◌∷◌, length, map}
 use Rattle.cs_base.specs.{Rates.is_audio, Rates.within, Rates.res_rate, declared.resource.Rate.Rate}
 use Rattle.cs_words.specs.Catalogue.{row_of, moving_letters, unit_takes}
@@ -12,12 +12,13 @@ use Rattle.cs_typed.specs.{WellRated.node_rate, WellRated.var_rate, declared.tre
 use Rattle.cs_typed.specs.declared.tree.Var.TheVariants.{Local, Global}
 use Rattle.cs_base.specs.declared.resource.Rate.TheVariants as rate
 
--- a variable of a note, or what notes share and has a value
+-- a local variable, or a shared resource that has a value
 abbrev pub holds_value : Variable → Bool
 holds_value (Local q n) = true
 holds_value (Global g) = has_value g
 
--- No part changes faster than the whole, and what notes share has a value that changes as often as it is read.
+-- No part changes faster than the complete expression, and a shared resource has a value that changes no
+-- faster than it is read.
 abbrev pub Ranked : Expression → Type 0
 Ranked (var r (Local q n)) = q ≡ r
 Ranked (var r (Global g)) = (has_value g && within r (res_rate g)) ≡ true
@@ -35,7 +36,7 @@ abbrev pub AllRanked : List Expression → Type 0
 AllRanked [] = Unit {0}
 AllRanked (e ∷ es) = Ranked e × AllRanked es
 
--- all are known when the note begins; all are sounds; they are pairs of a held value and a sound
+-- all are i-rate; all are a-rate; they are pairs of a value that isn't a-rate and an a-rate value
 abbrev pub AllInit : List Expression → Type 0
 AllInit [] = Unit {0}
 AllInit (e ∷ es) = (node_rate e ≡ rate.Init) × AllInit es
@@ -48,11 +49,11 @@ abbrev pub Paired : List Expression → Type 0
 Paired (c ∷ (e ∷ es)) = (is_audio (node_rate c) ≡ false) × (is_audio (node_rate e) ≡ true) × Paired es
 Paired a = Unit {0}
 
--- a register of each one's rate
+-- a register of each expression's rate
 abbrev pub rated : List Expression → List Reg
 rated es = map (λ e. reg (node_rate e) 0) es
 
--- a variable takes a value that changes no more often than itself
+-- a variable is assigned a value that changes no faster than the variable
 abbrev pub RankedSet : Variable → Expression → Type 0
 RankedSet v e = ((holds_value v && within (node_rate e) (var_rate v)) ≡ true) × Ranked e
 
@@ -60,7 +61,7 @@ abbrev pub GivenTo : Rate → List Variable → Type 0
 GivenTo r [] = Unit {0}
 GivenTo r (v ∷ vs) = (holds_value v && within r (var_rate v)) ≡ true
 
--- What runs has arguments that fit the letters of its opcode; a unit has settled ones too.
+-- An opcode that runs has arguments that its letters accept; a unit also has settled ones.
 pub record RankedRun (r : Rate) (vs : List Variable) (opcode : Opcode) (xs : List Expression) : Type 0 where
   pub moving : take_all (moving_letters (row_of opcode)) (bound_at (row_of opcode) r) (rated xs) ≡ true
   pub runs : may_run_at (row_of opcode) r ≡ true
@@ -74,7 +75,8 @@ pub record RankedUnit (r : Rate) (vs : List Variable) (opcode : Opcode) (xs is :
   pub run : RankedRun r vs opcode xs
   pub settled_parts : AllRanked is
 
--- A store's arguments are stored at its rate, and one of them, known when the note begins, is the number of its table.
+-- The arguments of a store fit its rate, and one of them, known as the note begins, is the number of its
+-- table.
 pub record RankedStore (r : Rate) (es is : List Expression) : Type 0 where
   pub stores : stores_with r (rated es) ≡ true
   pub settled : AllInit is

@@ -1,4 +1,4 @@
--- A well rated tree meets what the simulation asks.
+-- A well-rated tree satisfies the conditions of the simulation.
 use Rattle.std.proofs.Common.{◌≡◌, Bool, true, false, List, [], ◌∷◌, length, if◌then◌else◌, refl, sym, subst, arith}
 use Rattle.std.proofs.Common.{ne_eqb, Option, Some, None}
 use Rattle.std.proofs.lemmas.Bool.{and_parts}
@@ -15,7 +15,7 @@ use Rattle.cs_base.specs.declared.resource.Rate.TheVariants as rate
 use Rattle.cs_words.specs.declared.catalogue.Shape.TheVariants as shape
 use Rattle.cs_typed.specs.TypedTree as typed
 
--- ---- conditions that are known when the note begins
+-- ---- conditions that are known as the note begins
 
 pub init_is : (r : Rate) → is_init r ≡ true → r ≡ rate.Init
 init_is rate.Init h = refl
@@ -33,7 +33,7 @@ stills spaces (typed.arm c b rest) h =
 
 -- ---- results
 
--- a variable takes a result only where the opcode gives one
+-- a result variable exists only if the opcode has a result
 takes_given : (opcode : Opcode) (vs : List Variable) → length vs ≡ result_count (row_of opcode) → Takes opcode vs
 takes_given opcode [] k = tt
 takes_given opcode (v ∷ vs) k = rw (ne_eqb (result_count (row_of opcode)) 0 (λ e. absurd (omega arith))) refl

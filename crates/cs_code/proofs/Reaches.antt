@@ -1,4 +1,4 @@
--- What an op may touch, by what is known of its values.
+-- The resources that an op may touch, by the known facts about its values.
 use Rattle.std.proofs.Common.{◌≡◌, ◌∷◌, ℕ, ℤ, List, [], refl, sym}
 use Rattle.cs_base.specs.{declared.resource.Rate.Rate, declared.spaces.Spaces.Spaces}
 use Rattle.cs_ir.specs.Resources.{places_of}
@@ -19,7 +19,7 @@ place_by : (places : ℕ) (e : Expression) → place_reach places e ≡ place_kn
 place_by places (number r v) = refl
 place_by places a = refl
 
--- a first bound that is no literal
+-- a first bound that isn't a literal
 any_by : (places : ℕ) (e : Expression) → span_known places known.Other (known_of e) ≡ reach.Any
 any_by places (number r v) = refl
 any_by places a = refl

@@ -1,5 +1,5 @@
--- The ops of a note touch exactly what its statements do, as it begins and in a cycle: both what they may use and what
--- they may write.
+-- The ops of a note touch exactly the resources that its statements touch, as it begins and in a cycle. This
+-- holds both for used and for written resources.
 use Rattle.std.proofs.Common.{◌≡◌, ℕ, ◌+◌, Bool, true, false, List, [], ◌∷◌, ◌++◌, length, Option, Some, None}
 use Rattle.std.proofs.Common.{if◌then◌else◌, refl, sym, ◌∙◌, ap, ap₂, subst, append-nil}
 use Rattle.std.specs.List.{flat_map}
@@ -31,12 +31,13 @@ nothing_read : (r : Rate) → if_init {A = List Res} r [] [] ≡ []
 nothing_read rate.Init = refl
 nothing_read a = refl
 
--- what an expression reads: as a whole all of it, else what a cycle works out
+-- the resources that an expression reads: all of them as the note begins, or only in the parts that a cycle
+-- computes
 abbrev reads : When → Expression → List Res
 reads beginning = expr_reads
 reads cycle = expr_used cycle
 
--- what it reads by its own code, where it stands nowhere yet
+-- the resources that its own code reads, if it isn't in a register yet
 abbrev own_reads : When → Expression → List Res
 own_reads w (var r v) = var_uses v
 own_reads w (neg r a) = reads w a
@@ -49,7 +50,7 @@ module _ (t : Access) (stock : Stock) where
   abbrev touch : List Op → List Res
   touch ops = ops_touch t stock ops
 
-  -- two codes, one after the other, and what each touches
+  -- two codes one after another, and the resources that each touches
   two : (a b : List Op) (x y : List Res) → touch a ≡ x → touch b ≡ y → touch (a ++ b) ≡ x ++ y
   two a b x y h k = flat_map-append (λ o. act_touches t stock o.act) a b ∙ ap₂ ◌++◌ h k
 
@@ -61,9 +62,9 @@ module _ (t : Access) (stock : Stock) where
   two_reads may_use x y = refl
   two_reads may_write x y = refl
 
-  -- ---- what expressions read
+  -- ---- the resources that expressions read
 
-  -- what stands already is read no more: nothing that is made of it touches anything
+  -- a value that is in a register already isn't read again, so no code made from it touches anything
   by_rate : (r : Rate) (at : ℕ) (make : Option Reg → List Op) (here : Option Reg) (u : List Res)
       → ((q : Reg) → touch (make (Some q)) ≡ []) → touch (make here) ≡ read_only t u
       → touch (make (kept_or cycle r at here)) ≡ read_only t (if_init r [] u)
@@ -143,14 +144,14 @@ module _ (t : Access) (stock : Stock) where
       (read_only t (flat_map (reads w) es)) (operand_touch w at e d) (operands_touch w (past at e) es (d + 1))
       ∙ two_reads t (reads w e) (flat_map (reads w) es)
 
-  -- ---- what is kept of expressions
+  -- ---- the kept parts of expressions
 
   either : (r : Rate) (once each : List Op) (u v : List Res) → touch once ≡ u → touch each ≡ v
       → touch (if_init r once each) ≡ if_init r u v
   either rate.Init once each u v h k = h
   either a once each u v h k = k
 
-  -- of what is kept as a whole, or by its parts
+  -- an expression that is kept completely, or by its parts
   keeps : (at : ℕ) (e : Expression) (r : Rate) (parts : List Op) (v : List Res) → touch parts ≡ read_only t v
       → touch (if_init r (kept_code at e) parts) ≡ read_only t (if_init r (expr_reads e) v)
   keeps at e rate.Init parts v k = code_touch beginning 0 e (kept_reg at)
@@ -210,14 +211,14 @@ module _ (t : Access) (stock : Stock) where
       by_same false = refl
   given_touch r a = refl
 
-  -- an op on values, and what is left to do with its result
+  -- an op on values, and the remaining code for its result
   on_touch : (w : When) (at : ℕ) (a : Act) (into : Reg) (es : List Expression)
       → touch (on_code w at a into es) ≡ read_only t (flat_map (reads w) es) ++ act_touches t stock a
   on_touch w at a into es =
       two (operands_code w at es 0) (op_of a into (spots w at es 0) ∷ []) (read_only t (flat_map (reads w) es))
       (act_touches t stock a) (operands_touch w at es 0) (append-nil (act_touches t stock a))
 
-  -- one that touches nothing by itself
+  -- an op that touches nothing by itself
   alone : (a : Act) (into : Reg) (es : List Expression) → act_touches t stock a ≡ []
       → touch (on_code beginning 0 a into es) ≡ read_only t (exprs_read es)
   alone a into es none =
@@ -253,7 +254,7 @@ module _ (t : Access) (stock : Stock) where
       let test : Op = op_of (act.Unless (place + length before + 1 + length body + 1)) q (q ∷ []) in
       two before (test ∷ (body ++ (jump ∷ rest))) u (v ++ w) h (two body (jump ∷ rest) v w k l)
 
-  -- ---- statements, by the pass
+  -- ---- statements, in each pass
 
   cond_touch : (way : Pass) (at : ℕ) (c : Expression)
       → touch (cond_code way at c) ≡ read_only t (expr_used (when_of way) c)
@@ -331,7 +332,7 @@ module _ (t : Access) (stock : Stock) where
     stmt_touch pass.Initialisation place p _ = refl
     stmt_touch pass.Performance place p _ = refl
 
-    -- the ops of a note's beginning and of a control cycle touch what its statements do then
+    -- the ops of a note's beginning and of a control cycle touch the same resources as its statements
     pub block_touch : (way : Pass) (place : ℕ) (p : Progress) (b : Block)
         → touch (pass_block_code way place p b) ≡ block_touched t (when_of way) stock b
     block_touch way place p no_stmt = refl

@@ -1,4 +1,4 @@
--- The run of a code: in parts, where ops are passed over, and what is written.
+-- The run of a code: in parts, with skipped ops, and with written registers.
 use Rattle.std.proofs.Common.{◌≡◌, ℕ, ◌+◌, ◌<◌, ◌≤◌, ◌≢◌, pos, Bool, true, false, ◌&&◌, List, [], ◌∷◌, ◌++◌, length}
 use Rattle.std.proofs.Common.{map, nat_le, nat_lt, if◌then◌else◌, refl, sym, ◌∙◌, ap, arith, add-zero, le-leb, ne_eqb}
 use Rattle.std.proofs.Common.{append_assoc, subst}
@@ -21,7 +21,7 @@ and_false : (b : Bool) → (b && false) ≡ false
 and_false true = refl
 and_false false = refl
 
--- A machine whose next op stands at or before a place, in a world that has refused nothing.
+-- A machine whose next op is at or before a place, in a world that has refused nothing.
 pub record Live {W : Type 0} (o : World W) (place : ℕ) (m : Machine W) : Type 0 where
   pub next : m.next ≤ place
   pub going : o.refused m.world ≡ false
@@ -55,14 +55,14 @@ module _ {W : Type 0} (o : World W) where
   run_refused place (op ∷ ops) m h =
       ap (run o (place + 1) ops) (refused_step place op m h) ∙ run_refused (place + 1) ops m h
 
-  -- one op after others
+  -- one op after other ops
   pub run_snoc : (place : ℕ) (a : List Op) (op : Op) (m : Machine W) → Live o (place + length a) (run o place a m)
       → run o place (a ++ op ∷ []) m ≡ acts o op.act op.into (map (run o place a m).regs op.from) (run o place a m)
   run_snoc place a op m l = run_append place a (op ∷ []) m ∙ live_step (place + length a) op (run o place a m) l
 
 -- ---- registers
 
--- a register that is no temporary, or one below a number
+-- a register that is no temporary, or a temporary below a number
 abbrev pub UnderOf : ℕ → Kind → ℕ → Type 0
 UnderOf d kind.TemporaryInit n = n < d
 UnderOf d kind.TemporaryControl n = n < d
@@ -98,7 +98,7 @@ apart p q h = by_test (same_kind p.kind q.kind)
     (λ e. rw (e, ne_eqb p.offset q.offset (h (kind_is p.kind q.kind e))) refl)
     (λ e. rw e refl)
 
--- below a temporary nothing is it
+-- a temporary below number d is different from all temporaries from d on
 under_temporary : (d : ℕ) (r : Rate) (n : ℕ) → UnderOf d (temporary r) n → n < d
 under_temporary d rate.Init n h = h
 under_temporary d a n h = h
@@ -110,7 +110,7 @@ under_apart_of d r k n h e same =
 pub under_apart : (d : ℕ) (r : Rate) (p : Reg) → Under d p → same_reg p (temp r d) ≡ false
 under_apart d r p h = apart p (temp r d) (under_apart_of d r p.kind p.offset h)
 
--- a local variable is no kept value, and locals of different rates are apart
+-- a local variable is no kept value, and locals of different rates are different
 pub local_not_kept : (r : Rate) (n at : ℕ) → same_reg (reg r n) (kept_reg at) ≡ false
 local_not_kept rate.Init n at = refl
 local_not_kept a n at = refl
@@ -119,14 +119,14 @@ pub kept_not_local : (r : Rate) (n at : ℕ) → same_reg (kept_reg at) (reg r n
 kept_not_local rate.Init n at = refl
 kept_not_local a n at = refl
 
--- a register's writing
+-- a register after it was written
 pub put_here : (g : Reg → Wave) (q : Reg) (w : Wave) → put g q w q ≡ w
 put_here g q w = rw (same_reg_here q) refl
 
 pub put_other : (g : Reg → Wave) (q : Reg) (w : Wave) (p : Reg) → same_reg p q ≡ false → put g q w p ≡ g p
 put_other g q w p h = rw h refl
 
--- ---- waves
+-- ---- signals
 
 twice : {A : Type 0} (b : Bool) (x y : A) → (if b then (if b then x else y) else y) ≡ (if b then x else y)
 twice true x y = refl

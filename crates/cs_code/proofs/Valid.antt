@@ -1,6 +1,6 @@
--- The code of a note is valid: its ops take what they read, and its jumps go forward. It names its units as what they
--- are, and channels that the piece has. And what is done in a cycle starts no unit, looks for no table and asks for no
--- note.
+-- The code of a note is valid: its acts accept their operands, and its jumps go forward. It names its units
+-- with their opcodes and rates, and only channels that the piece has. The code of a cycle starts no unit,
+-- looks up no table and schedules no note.
 use Rattle.std.proofs.Common.{◌≡◌, ℕ, zero, suc, ◌+◌, ◌<◌, ◌≤◌, Bool, true, false, not, ◌&&◌, ◌||◌, nat_le, nat_lt}
 use Rattle.std.proofs.Common.{le-leb, lt-ltb, List, [], ◌∷◌, ◌++◌, length, Option, Some, None, if◌then◌else◌, refl, sym}
 use Rattle.std.proofs.Common.{◌∙◌, ap, ap₂, slice_get, subst, arith, length-append}
@@ -40,13 +40,13 @@ use Rattle.cs_base.specs.declared.resource.Rate.TheVariants as rate
 use Rattle.cs_ir.specs.declared.op.Act.TheVariants as act
 use Rattle.cs_code.specs.declared.frame.Pass.TheVariants as pass
 
--- where an act goes on: later, and not beyond the end
+-- a jump goes to a later op, and not beyond the end
 abbrev pub Lands : ℕ → ℕ → Act → Type 0
 Lands end place (act.Jump to) = (place < to) × (to ≤ end)
 Lands end place (act.Unless to) = (place < to) × (to ≤ end)
 Lands end place _ = Unit {0}
 
--- what is no jump goes on with the next op
+-- an act that isn't a jump continues with the next op
 abbrev pub Stays : Act → Type 0
 Stays (act.Jump to) = ⊥
 Stays (act.Unless to) = ⊥
@@ -57,7 +57,7 @@ lands end place (act.Jump to) s = absurd s
 lands end place (act.Unless to) s = absurd s
 lands end place a s = tt
 
--- a statement without statements of its own
+-- a statement that contains no statements
 abbrev Alone : Stmt → Type 0
 Alone (choose r arms) = ⊥
 Alone _ = Unit {0}
@@ -72,7 +72,7 @@ pub init_within : (r : Rate) → within rate.Init r ≡ true
 init_within rate.Init = refl
 init_within a = refl
 
--- where a value stands has its rate
+-- the register that holds a value has the value's rate
 rate_kept : (when : When) (r : Rate) (at d : ℕ) → rate_at (reg_or (kept_or when r at None) (temp r d)) ≡ r
 rate_kept beginning r at d = temp_rate r
 rate_kept cycle rate.Init at d = refl
@@ -155,7 +155,7 @@ three a b c h k l = rw (h, k, l) refl
 four : (a b c d : Bool) → a ≡ true → b ≡ true → c ≡ true → d ≡ true → (a && b && c && d) ≡ true
 four a b c d h k l m = rw (h, k, l, m) refl
 
--- a condition stands in no sound
+-- a condition isn't in an a-rate register
 cond_held : (way : Pass) (at : ℕ) (c : Expression) → Ranked c → is_audio (node_rate c) ≡ false
     → is_audio (rate_at (cond_reg way at c)) ≡ false
 cond_held pass.Initialisation at c h held = refl
@@ -164,12 +164,12 @@ cond_held pass.Performance at c h held = ap is_audio (spot_rate cycle at c 0 h) 
 -- ---- ops that are right
 
 module _ (cycles : Bool) (channels : ℕ) (units : List UnitKind) where
-  -- an op names what there is, is done where it may be, and takes what it reads
+  -- an op is right: it names existing things, is allowed in its pass, and its act accepts its operands
   abbrev pub Right : Op → Type 0
   Right op = (Names channels units op.act (rate_at op.into) × (suits cycles op.act ≡ true))
       × (takes_from op.act (rate_at op.into) op.from ≡ true)
 
-  -- ops that are right, none of them a jump
+  -- the ops are right, and none of them is a jump
   abbrev pub Plain : List Op → Type 0
   Plain [] = Unit {0}
   Plain (op ∷ ops) = Right op × Stays op.act × Plain ops
@@ -178,7 +178,7 @@ module _ (cycles : Bool) (channels : ℕ) (units : List UnitKind) where
   both [] b h k = k
   both (op ∷ a) b h k = (h.0, h.1, both a b h.2 k)
 
-  -- what an act takes does for a register of a rate
+  -- operands that an act accepts are accepted for any register of this rate
   takes_into : (a : Act) (r : Rate) (x : Reg) (qs : List Reg) → rate_at x ≡ r → takes_from a r qs ≡ true
       → takes_from a (rate_at x) qs ≡ true
   takes_into a r x qs is h = subst (λ q. takes_from a q qs ≡ true) (sym is) h
@@ -273,7 +273,7 @@ module _ (cycles : Bool) (channels : ℕ) (units : List UnitKind) where
       both (operand_code when at e d) (operands_code when (past at e) es (d + 1)) (operand_plain when e at d h.0)
       (operands_plain when es (past at e) (d + 1) h.1)
 
-  -- a copy of what stands in its rate, or its own code
+  -- a copy of a value that is in a register, or the value's own code
   code_from : (when : When) (e : Expression) (at : ℕ) (x : Reg) → rate_at x ≡ node_rate e → (d : ℕ) → Ranked e
       → (there : Option Reg) → direct when at e ≡ there → Plain (copied there x (own when at e x d))
   code_from when e at x is d h (Some q) there =
@@ -362,7 +362,7 @@ module _ (cycles : Bool) (channels : ℕ) (units : List UnitKind) where
   given_plain r (Global g ∷ vs) h =
       (((tt, refl), ap (λ y. has_value g && within y (res_rate g)) (temp_rate r) ∙ h), tt, tt)
 
-  -- an op on values that it takes; and what is then left to do
+  -- an op on values that it accepts, followed by the remaining code for its result
   on_plain : (when : When) (at : ℕ) (a : Act) (into : Reg) (es : List Expression) → AllRanked es
       → Names channels units a (rate_at into) → suits cycles a ≡ true
       → takes_from a (rate_at into) (spots when at es 0) ≡ true → Stays a → Plain (on_code when at a into es)
@@ -386,7 +386,7 @@ module _ (cycles : Bool) (channels : ℕ) (units : List UnitKind) where
         given_plain r vs given,
       )
 
-  -- all are still, and so are the registers where they stand
+  -- i-rate values are in registers that don't change
   spots_still : (is : List Expression) → AllInit is → AllRanked is → list_all is_still (spots beginning 0 is 0) ≡ true
   spots_still is h k =
       same_all is_init (spots beginning 0 is 0) (rated is) (spots_rates beginning 0 is 0 k) ∙ init_still is h
@@ -475,7 +475,7 @@ module _ (cycles : Bool) (channels : ℕ) (units : List UnitKind) where
   cond_plain pass.Initialisation at c h = keep_plain c at h
   cond_plain pass.Performance at c h = operand_plain cycle c at 0 h
 
-  -- a note's beginning may do anything where ops aren't of a cycle alone
+  -- a pass may begin notes if its ops aren't restricted to ops of a cycle
   abbrev pub Begins : Pass → Type 0
   Begins pass.Initialisation = not cycles ≡ true
   Begins pass.Performance = Unit {0}
@@ -531,7 +531,7 @@ module _ (cycles : Bool) (channels : ℕ) (units : List UnitKind) where
   -- ---- jumps
 
   module _ (end : ℕ) where
-    -- ops from a place on that are right, and go on where they may
+    -- the ops from a place on are right, and their jumps are allowed
     abbrev pub Fine : ℕ → List Op → Type 0
     Fine place [] = Unit {0}
     Fine place (op ∷ ops) = Right op × Lands end place op.act × Fine (place + 1) ops
@@ -640,7 +640,7 @@ module _ (cycles : Bool) (channels : ℕ) (units : List UnitKind) where
         at rest zero d low = h.0.0.0
         at rest (suc k) d low = rest k d (omega arith)
 
--- ---- the whole test of a code
+-- ---- the complete test of a code
 
 or_right : (a b : Bool) → b ≡ true → (a || b) ≡ true
 or_right true b h = refl
@@ -673,7 +673,7 @@ has_all counts (q ∷ qs) h =
     (has_one counts q (λ k. let m = h k in omega arith))
     (has_all counts qs (λ k. let m = h k in omega arith))
 
--- a code is valid where its ops are fine, and there are as many registers and units as it names
+-- a code is valid if its ops are fine, and there are as many registers and units as it names
 pub fine_valid : (cycles : Bool) (counts : Counts) (channels : ℕ) (units : List UnitKind) (end place : ℕ)
     (ops : List Op) → length units ≤ counts.units
     → ((k : Kind) → ops_limit k ops ≤ at_kind counts.registers k) → Fine cycles channels units end place ops
@@ -694,7 +694,7 @@ fine_valid cycles counts channels units end place (op ∷ ops) low limits fine =
 whole_at : (units : List UnitKind) → At units 0 units
 whole_at units = λ i x e. ap (slice_get units) (let z : 0 + i ≡ i = omega arith in z) ∙ e
 
--- whether a pass is done in each cycle
+-- whether a pass is performed in each cycle
 abbrev pub of_cycles : Pass → Bool
 of_cycles pass.Initialisation = false
 of_cycles pass.Performance = true
@@ -726,7 +726,7 @@ in_cycle channels units end place (op ∷ ops) h =
     two (is_of_cycle op.act) (are_of_cycle ops) (or_none (is_of_cycle op.act) h.0.0.1)
     (in_cycle channels units end (place + 1) ops h.2)
 
--- the performance of statements starts no unit, looks for no table and asks for no note
+-- the performance code of statements starts no unit, looks up no table and schedules no note
 pub perf_cycles : (channels : ℕ) (b : Block) → RankedBlock b → NarrowBlock channels b
     → are_of_cycle (pass_block_code pass.Performance 0 start b) ≡ true
 perf_cycles channels b ranked narrow =

@@ -1,4 +1,4 @@
--- The codes of a well rated block are valid, and name what there is.
+-- The codes of a well-rated block are valid, and name only existing things.
 use Rattle.std.proofs.Common.{◌≡◌, ◌≤◌, true, List, length, arith}
 use Rattle.cs_base.specs.declared.spaces.Spaces.{Spaces}
 use Rattle.cs_ir.specs.{Validity.fine_from, declared.op.Op.Op, Registers.at_kind, declared.register.Counts.Counts}
@@ -11,7 +11,7 @@ use Rattle.cs_code.proofs.{FromRates.block_ranked, FromRates.narrow_block, Named
 use Rattle.cs_code.proofs.Valid.{fine_valid, of_cycles, whole_fine}
 use Rattle.cs_typed.specs.TypedTree as typed
 
--- as many units as the text has
+-- the number of units at the end of the text
 pub units_counted : (b : Block) → (past_block start b).unit ≡ length (block_units b)
 units_counted b = let h = block_count start b in omega arith
 

@@ -1,4 +1,4 @@
--- How much there is to do in statements: a number that falls from each part of the tree to the parts in it.
+-- The weight of statements, a number that decreases from each part of the tree to the parts in it.
 use Rattle.std.proofs.Common.{◌≡◌, ◌<◌, ◌≤◌, ◌+◌, ◌*◌, ◌∷◌, [], ℕ, zero, suc, List, length, get_or, arith, refl, ap}
 use Rattle.cs_base.specs.declared.resource.Rate.{Rate}
 use Rattle.cs_typed.specs.TypedTree as typed
@@ -18,7 +18,7 @@ abbrev mutual
   arms_weight (typed.otherwise b) = block_weight b
   arms_weight (typed.arm c b rest) = suc (block_weight b) + arms_weight rest
 
--- of what the code's tree has, where what is invoked counts for nothing
+-- the weight of a statement of the code's tree, in which invoked routines count for nothing
 abbrev pub one_weight : TypedStmt → ℕ
 one_weight s = block_weight (typed.statement [] s)
 

@@ -1,4 +1,4 @@
--- The worked examples are what the definitions compute.
+-- The worked examples are the results of the definitions.
 use Rattle.std.proofs.Common.{◌≡◌, ◌*ℤ◌, ℤ, pos, max, List, [], ◌∷◌, refl}
 use Rattle.std.proofs.lemmas.List.Elements.{All-nil, All-cons}
 use Rattle.std.specs.List.{All}

@@ -1,4 +1,4 @@
--- Three small instruments, and their codes worked by hand.
+-- Three small instruments, with their codes written by hand.
 use Rattle.std.specs.Prelude.{ℕ, pos, ◌*ℤ◌, ◌≡◌, List, [], ◌∷◌}
 use Rattle.cs_base.specs.{Numbers.one, declared.resource.Rate.Rate}
 use Rattle.cs_ir.specs.{declared.op.Act.Act, declared.op.Code.Code, declared.op.Op.Op, Registers.local}
@@ -38,7 +38,7 @@ terms =
     typed.andthen (typed.set 1 rate.Control (Local rate.Control 0) (plus (plus (plus first second) first) second))
     typed.no_stmt
 
--- a local variable's register, that of a kept value, and a temporary
+-- the register of a local variable
 abbrev at : Rate → ℕ → Reg
 at r n = record { kind = local r; offset = n }
 
@@ -48,25 +48,27 @@ kept n = record { kind = kind.Kept; offset = n }
 abbrev between : Rate → ℕ → Reg
 between r n = record { kind = temporary r; offset = n }
 
--- so many registers: locals of rates Init and Control, kept values, temporaries of both rates, and of rate Audio locals
--- and temporaries
+-- the numbers of registers, in this order: i-rate locals, k-rate locals, kept values, i-rate temporaries,
+-- k-rate temporaries, a-rate locals, a-rate temporaries
 abbrev counts_of : List ℕ → ℕ → Counts
 counts_of registers units = record { registers = record { counts = registers }; units = units }
 
 abbrev op : Act → Reg → List Reg → Op
 op a into from = record { act = a; into = into; from = from }
 
--- As a note begins the 1 is kept, and in each cycle it is added.
+-- As a note begins the constant 1 is kept, and in each cycle it is added.
 abbrev pub counter_init : List Op
 counter_init = op (act.Const one) (kept 0) [] ∷ []
 
+-- the ops of `counter` in a cycle
 abbrev pub counter_perf : List Op
 counter_perf = op (act.Pair sign.Add) (at rate.Control 0) (at rate.Control 0 ∷ kept 0 ∷ []) ∷ []
 
+-- the registers and units of `counter`
 abbrev pub counter_counts : Counts
 counter_counts = counts_of (0 ∷ 1 ∷ 1 ∷ 0 ∷ 0 ∷ 0 ∷ 0 ∷ []) 0
 
--- Nothing is kept, and one temporary takes each sum in turn.
+-- Nothing is kept, and one temporary holds each sum in turn.
 abbrev pub terms_perf : List Op
 terms_perf =
     op (act.Pair sign.Add) (between rate.Control 0) (at rate.Control 0 ∷ at rate.Control 1 ∷ [])
@@ -74,11 +76,12 @@ terms_perf =
     ∷ op (act.Pair sign.Add) (at rate.Control 0) (between rate.Control 0 ∷ at rate.Control 1 ∷ [])
     ∷ []
 
+-- the registers and units of `terms`
 abbrev pub terms_counts : Counts
 terms_counts = counts_of (0 ∷ 2 ∷ 0 ∷ 0 ∷ 1 ∷ 0 ∷ 0 ∷ []) 0
 
--- As a note begins the frequency is kept and the unit started on its table, and in each cycle the unit runs and its
--- sound goes out.
+-- As a note begins the frequency is kept and the unit is started on its table; in each cycle the unit runs
+-- and its signal is output.
 abbrev pub tone_init : List Op
 tone_init =
     op (act.Const (pos 440 *ℤ one)) (kept 0) []
@@ -86,12 +89,14 @@ tone_init =
     ∷ op (act.Start opcode.Oscili 0) (between rate.Audio 0) (between rate.Init 0 ∷ [])
     ∷ []
 
+-- the ops of `tone` in a cycle
 abbrev pub tone_perf : List Op
 tone_perf =
     op (act.Unit opcode.Oscili 0 (reach.Span 1 1)) (at rate.Audio 0) (at rate.Control 0 ∷ kept 0 ∷ [])
     ∷ op (act.Out 0) (at rate.Audio 0) (at rate.Audio 0 ∷ [])
     ∷ []
 
+-- the registers and units of `tone`
 abbrev pub tone_counts : Counts
 tone_counts = counts_of (0 ∷ 1 ∷ 1 ∷ 1 ∷ 0 ∷ 1 ∷ 1 ∷ []) 1
 

@@ -1,4 +1,5 @@
--- What only clauses of private functions cite: the code that is made, as functions of the tree.
+-- Definitions that only clauses of private functions cite: the code that is generated, as functions of the
+-- tree.
 pub mod Branches
 pub mod Code
 pub mod Emitted

@@ -1,4 +1,5 @@
-// The values among a call's arguments, and their code. The catalogue's letters say which are settled at note start.
+// The values among a call's arguments, and their code. The catalogue's letters determine which of them are
+// settled as the note begins.
 ghost use Rattle.std.specs.Prelude.{◌≡◌, ◌++◌, not, true, IfOk, OnOk};
 ghost use Rattle.cs_ir.specs.{Codes.is_unaimed, Drafts.Grew};
 ghost use Rattle.cs_meaning.specs.Core.{settled, moving, values_of};
@@ -17,7 +18,7 @@ use cs_typed::{TypedArg, TypedExpr, Var};
 use cs_words::{Letter, Opcode, signature_of};
 use std::alloc::Global;
 
-/// A call of an opcode, and how often it is done.
+/// A call of an opcode, and its rate.
 #[derive(Clone, Copy)]
 pub struct Call<'t> {
     pub rate: Rate,
@@ -26,7 +27,8 @@ pub struct Call<'t> {
     pub args: &'t [TypedArg],
 }
 
-/// The values among a call's arguments, in order: those that are settled as the note begins, and those that move.
+/// The values among a call's arguments, in order: settled ones, which are known as the note begins, and
+/// moving ones.
 #[derive(Drop)]
 pub struct Parted<'t> {
     pub settled: Vec<&'t TypedExpr>,
@@ -34,7 +36,7 @@ pub struct Parted<'t> {
 }
 
 impl<'t> Parted<'t> {
-    // One argument more, of an opcode that takes it by this letter.
+    // Adds an argument of an opcode that accepts it by this letter.
     #[tactic(auto, using(crate::proofs::Lists::expressions_more, crate::proofs::Lists::append_nothing))]
     fn add(&mut self, letter: Letter, arg: &'t TypedArg) -> Result<(), OutOfMemory>
         ensures settled { OnOk result (expressions_of self.new.settled.items
@@ -56,7 +58,7 @@ impl<'t> Parted<'t> {
     }
 }
 
-/// The values among the arguments of a call, by whether the opcode's letters let them move.
+/// Divides the values among the arguments of a call into settled and moving ones, by the opcode's letters.
 pub fn parted_values<'t>(alloc: Global, call: &Call<'t>) -> Result<Parted<'t>, OutOfMemory>
     ensures settled { IfOk result (λ p. expressions_of p.settled.items
         ≡ settled (row_of call.now.opcode) 0 (arguments_of call.now)) }
@@ -98,14 +100,15 @@ fn add_value<'t>(values: &mut Vec<&'t TypedExpr>, arg: &'t TypedArg) -> Result<(
     Ok(())
 }
 
-/// Where values stand, in order, and the number of the next kept value.
+/// The registers of values, in order, and the number of the next kept value.
 #[derive(Drop)]
 pub struct Gathered {
     pub regs: Vec<Reg>,
     pub next: u32,
 }
 
-/// The code of values, into temporaries from 0 on where they stand nowhere yet.
+/// Emits the code of values that aren't in a register yet, into temporaries from 0 on. Returns all their
+/// registers.
 pub fn operands(
     ops: &mut CodeDraft<'_>,
     context: Context,
@@ -129,7 +132,7 @@ pub fn operands(
     Ok(Gathered { regs, next })
 }
 
-/// An op on values, after their code. Returns the number of the next kept value.
+/// Emits an op on values, after their code. Returns the number of the next kept value.
 #[tactic(auto, using(crate::proofs::Growing::growing))]
 pub fn push_on(
     ops: &mut CodeDraft<'_>,
@@ -150,7 +153,7 @@ pub fn push_on(
     Ok(next)
 }
 
-/// The parts of values that are kept. Returns the number of the next kept value.
+/// Emits the code of the kept parts of values. Returns the number of the next kept value.
 pub fn keep_all(
     ops: &mut CodeDraft<'_>,
     context: Context,

@@ -1,4 +1,4 @@
-// The code of calls, for either pass, by what a call is short for.
+// The code of calls in either pass, by their core statements.
 ghost use Rattle.std.specs.Prelude.{◌≡◌, IfOk, OnOk};
 ghost use Rattle.cs_ir.specs.Drafts.{Grew};
 ghost use Rattle.cs_meaning.specs.Core.{ask, unit_call, store_call, zak_call, values_of};
@@ -19,14 +19,15 @@ use cs_ir::CodeDraft;
 use cs_typed::TypedArg;
 use cs_words::{Shape, signature_of};
 
-/// What a channel takes: a value, or the sum of what it has and a value.
+/// The value that is assigned to a channel: an expression, or the sum of the channel's value and an
+/// expression.
 #[derive(Clone, Copy)]
 pub enum Putting {
     Value,
     Sum,
 }
 
-// A variable takes a value once, as the note begins.
+// A call that assigns a value to a variable once, as the note begins.
 fn once<'t>(call: &Call<'t>) -> Option<Assignment<'t>>
     ensures { IsAssignmentOf result shape.Init call.now }
 {
@@ -53,7 +54,7 @@ fn get<'t>(call: &Call<'t>) -> Option<Assignment<'t>>
     }
 }
 
-// A channel takes a value, or what it has and a value.
+// A call that assigns a value to a channel, or adds it to the channel's value.
 fn put<'t>(call: &Call<'t>, how: Putting) -> Option<Assignment<'t>>
     ensures { IsAssignmentOf result (put_shape how) call.now }
 {
@@ -96,7 +97,7 @@ fn assigned<'t>(call: &Call<'t>) -> Option<Assignment<'t>>
     }
 }
 
-// A unit, over the values among its arguments.
+// Emits the code of a unit, over the values among its arguments.
 fn unit_call(ops: &mut CodeDraft<'_>, at: Place, call: &Call<'_>) -> Result<Progress, OutOfMemory>
     ensures ops { OnOk result (Grew ops.old ops.new (pass_code at.context.pass 0 at.before (unit_call call.now.rate
         call.now.results.now call.now.opcode (arguments_of call.now)))) }
@@ -109,7 +110,7 @@ fn unit_call(ops: &mut CodeDraft<'_>, at: Place, call: &Call<'_>) -> Result<Prog
     unit(ops, at.context, at.before, reach, call, &values)
 }
 
-// A store, over all values among its arguments, of which the settled one is the number of its table.
+// Emits the code of a store, over all values among its arguments. The settled one is the number of its table.
 fn store_call(ops: &mut CodeDraft<'_>, at: Place, call: &Call<'_>) -> Result<Progress, OutOfMemory>
     ensures ops { OnOk result (Grew ops.old ops.new (pass_code at.context.pass 0 at.before (store_call call.now.rate
         call.now.opcode (arguments_of call.now)))) }
@@ -121,7 +122,7 @@ fn store_call(ops: &mut CodeDraft<'_>, at: Place, call: &Call<'_>) -> Result<Pro
     store(ops, at.context, at.before, call.rate, &all, &parted.settled)
 }
 
-// What reads or writes zak places, over its values.
+// Emits the code of an opcode that reads or writes zak places, over its values.
 fn zak_call(ops: &mut CodeDraft<'_>, at: Place, call: &Call<'_>) -> Result<Progress, OutOfMemory>
     ensures ops { OnOk result (Grew ops.old ops.new (pass_code at.context.pass 0 at.before (zak_call at.context.spaces
         call.now.rate call.now.results.now call.now.opcode (row_of call.now.opcode).shape (arguments_of call.now)))) }
@@ -184,7 +185,7 @@ fn effect(ops: &mut CodeDraft<'_>, at: Place, call: &Call<'_>) -> Result<Progres
     }
 }
 
-/// The code of a call. Returns what was met before its end.
+/// Emits the code of a call. Returns the progress at its end.
 pub fn call(ops: &mut CodeDraft<'_>, at: Place, call: &Call<'_>) -> Result<Progress, OutOfMemory>
     ensures { IfOk result (λ q. Lowered at.context.pass ops.old ops.new at.before q
         (alone_in at.context.spaces (called call.now))) }

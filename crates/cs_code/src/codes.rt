@@ -13,14 +13,14 @@ use cs_typed::{TypedOrc, TypedStmt};
 use std::alloc::Global;
 use std::sync::Arc;
 
-/// The ops of a block in a pass, and how many values it keeps and units it meets.
+/// The ops of a block in a pass, with the number of values that it keeps and of units in it.
 #[derive(Drop)]
 pub struct BlockOps {
     pub ops: Ops,
     pub extent: Progress,
 }
 
-/// The routines of an orchestra as each pass has them.
+/// The routines of an orchestra, for each pass.
 #[derive(Drop)]
 pub struct Library {
     pub init: Routines,

@@ -1,4 +1,4 @@
-// The code of expressions, and of what variables take. Each call appends to `ops`.
+// The code of expressions and of assignments. Each function appends to `ops`.
 ghost use Rattle.std.specs.Prelude.{◌≡◌, ◌+◌, [], ◌∷◌, true, IfOk, OnOk};
 ghost use Rattle.cs_ir.specs.{Codes.is_unaimed, Drafts.Grew, Waves.if_init};
 ghost use Rattle.cs_code.specs.inner.Code.{own, code, operand_code, look_code, keep_code, kept_code, set_code};
@@ -26,7 +26,7 @@ fn look(ops: &mut CodeDraft<'_>, v: Var, into: Reg) -> Result<(), OutOfMemory>
     }
 }
 
-// A value that has no parts. Returns the number of the next kept value.
+// Emits the op of a value without parts. Returns the number of the next kept value.
 fn leaf(
     ops: &mut CodeDraft<'_>,
     act: Act,
@@ -42,7 +42,8 @@ fn leaf(
     next_of(rate, at, at)
 }
 
-// The last op of a value, after its parts. Returns the number of the next kept value, by that after the parts.
+// Emits the last op of a value, after its parts. `next` is the number of the next kept value after the parts.
+// Returns the number after the value.
 fn finish(
     ops: &mut CodeDraft<'_>,
     op: Op,
@@ -58,7 +59,7 @@ fn finish(
     next_of(rate, at, parts)
 }
 
-// The value of an expression that stands nowhere yet, into a register; `d` is the first free temporary. Returns the
+// Emits the code of an expression that isn't in a register yet; `d` is the first free temporary. Returns the
 // number of the next kept value.
 #[cycle(expr)]
 #[tactic(auto, using(crate::proofs::Growing::growing))]
@@ -112,7 +113,8 @@ fn own(
     }
 }
 
-/// Returns the register that holds `e`, and emits code into temporary `d` of its rate where `e` isn't in one already.
+/// Returns the register that holds `e`. If `e` isn't in one yet, emits its code into temporary `d` of its
+/// rate.
 #[cycle(expr)]
 #[tactic(auto, using(crate::proofs::Nodes::rate_of_part, crate::proofs::Nodes::nodes, crate::proofs::Growing::growing))]
 pub fn operand(
@@ -140,7 +142,7 @@ pub fn operand(
     }
 }
 
-// What makes a variable's value stand somewhere.
+// Puts a variable's value into a register, if it isn't in one yet.
 #[tactic(auto, using(crate::proofs::Nodes::nodes, crate::proofs::Growing::growing))]
 fn variable(
     ops: &mut CodeDraft<'_>,
@@ -165,7 +167,7 @@ fn variable(
     }
 }
 
-// A value that stands nowhere yet, into a register.
+// Emits the code of a value that isn't in a register yet.
 fn made(
     ops: &mut CodeDraft<'_>,
     context: Context,
@@ -194,7 +196,8 @@ fn made(
     }
 }
 
-/// What makes a value stand somewhere: nothing, or its code into the first temporary of its rate.
+/// Puts a value into a register: emits nothing if it is in one, otherwise its code into the first temporary
+/// of its rate.
 #[tactic(auto, using(crate::proofs::Nodes::nodes, crate::proofs::Growing::growing))]
 pub fn spot_of(
     ops: &mut CodeDraft<'_>,
@@ -219,7 +222,8 @@ pub fn spot_of(
     }
 }
 
-/// A value into a register, by a copy where it stands already. Returns the number of the next kept value.
+/// Emits the code of a value into a given register, a copy if the value is in a register already. Returns the
+/// number of the next kept value.
 #[tactic(auto, using(crate::proofs::Nodes::copies))]
 pub fn code(
     ops: &mut CodeDraft<'_>,
@@ -240,7 +244,8 @@ pub fn code(
     }
 }
 
-/// The outermost parts that don't change, each into its register. Returns the number of the next kept value.
+/// Emits the outermost parts that don't change, each into its register. Returns the number of the next kept
+/// value.
 #[cycle(keep)]
 #[tactic(auto, using(crate::proofs::Nodes::splits, crate::proofs::Growing::growing))]
 pub fn keep(
@@ -276,7 +281,7 @@ pub fn keep(
     }
 }
 
-/// The kept parts of a value. Returns the number of the next kept value.
+/// Emits the kept parts of a value. Returns the number of the next kept value.
 #[tactic(auto, using(crate::proofs::Growing::growing))]
 pub fn keep_value(
     ops: &mut CodeDraft<'_>,
@@ -299,7 +304,7 @@ pub fn keep_value(
     }
 }
 
-/// A variable takes a value. Returns the number of the next kept value.
+/// Emits an assignment to a variable. Returns the number of the next kept value.
 #[tactic(auto, using(crate::proofs::Growing::growing))]
 pub fn set(
     ops: &mut CodeDraft<'_>,

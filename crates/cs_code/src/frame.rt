@@ -1,4 +1,4 @@
-// Where a note's values stand among the registers, and the ops that are appended.
+// The registers of a note's values, and functions that append ops.
 ghost use Rattle.std.specs.Prelude.{◌≡◌, ◌+◌, [], ◌∷◌, length, true, IfOk, OnOk};
 ghost use Rattle.cs_ir.specs.{Codes.is_unaimed, Drafts.Grew, Drafts.IsAt, Drafts.drafted, Waves.if_init};
 ghost use Rattle.cs_meaning.specs.Notes.{reg};
@@ -8,14 +8,14 @@ use cs_base::{OutOfMemory, Rate, Spaces};
 use cs_ir::{Act, CodeDraft, Kind, Mark, Op, Operands, Reg};
 use std::alloc::Global;
 
-/// Which of a note's two codes is made.
+/// The pass of a note for which code is generated.
 #[derive(Clone, Copy)]
 pub enum Pass {
     Initialisation,
     Performance,
 }
 
-/// What code is made for: one of a note's two codes, where its values stand, and the zak spaces of the piece.
+/// What code is generated for: which pass of a note, the allocator, and the zak spaces of the piece.
 #[derive(Clone, Copy)]
 pub struct Context {
     pub alloc: Global,
@@ -23,39 +23,40 @@ pub struct Context {
     pub spaces: Spaces,
 }
 
-/// How far the code of a text has come: how many values were kept and units met in the text before a place.
+/// The progress of code generation: the number of kept values and of units in the text before a place.
 #[derive(Clone, Copy)]
 pub struct Progress {
     pub part: u32,
     pub unit: u32,
 }
 
-/// Where code is made: what for, and how far it has come.
+/// Where code is generated: its context, and the progress before it.
 #[derive(Clone, Copy)]
 pub struct Place {
     pub context: Context,
     pub before: Progress,
 }
 
-/// Where a code begins.
+/// The progress at the beginning of a code.
 pub const START: Progress = Progress { part: 0, unit: 0 };
 
-/// Where a value stands, and the number of the next kept value after its own.
+/// The register that holds a value, and the number of the next kept value after it.
 #[derive(Clone, Copy)]
 pub struct ValueSpot {
     pub reg: Reg,
     pub next: u32,
 }
 
-/// `a + b`, of numbers of registers or units. One that doesn't fit is reported as out of memory, since what stands
-/// below it would take 32 GB.
+/// `a + b`, for numbers of registers or units. A sum that doesn't fit is reported as out of memory, since the
+/// registers below it would need 32 GB.
 pub fn add(a: u32, b: u32) -> Result<u32, OutOfMemory>
     ensures { IfOk result (λ n. n ≡ a + b) }
 {
     a.checked_add(b).ok_or(OutOfMemory)
 }
 
-/// A number of a register as ops name it. One that doesn't fit is reported as out of memory, as by `add`.
+/// The number of a register as ops name it. A number that doesn't fit is reported as out of memory, as in
+/// `add`.
 pub fn narrow(number: usize) -> Result<u32, OutOfMemory>
     ensures { IfOk result (λ n. n ≡ number) }
 {
@@ -96,7 +97,7 @@ pub fn temp(rate: Rate, d: u32) -> Reg
     }
 }
 
-/// The number of the next kept value: one more at rate Init, else what its parts leave.
+/// The number of the next kept value: one more at i-rate, otherwise the number after its parts.
 pub fn next_of(rate: Rate, at: u32, parts: u32) -> Result<u32, OutOfMemory>
     ensures { IfOk result (λ n. n ≡ if_init rate (at + 1) parts) }
 {
@@ -106,7 +107,7 @@ pub fn next_of(rate: Rate, at: u32, parts: u32) -> Result<u32, OutOfMemory>
     }
 }
 
-/// Appends an op that is no jump.
+/// Appends an op that isn't a jump.
 pub fn push(ops: &mut CodeDraft<'_>, act: Act, into: Reg, from: Operands) -> Result<(), OutOfMemory>
     requires { is_unaimed act ≡ true }
     ensures { OnOk result (Grew ops.old ops.new (op_of act into from ∷ [])) }
@@ -115,7 +116,7 @@ pub fn push(ops: &mut CodeDraft<'_>, act: Act, into: Reg, from: Operands) -> Res
     Ok(())
 }
 
-/// Appends a jump that is to be aimed.
+/// Appends a jump whose target is set later.
 pub fn jump(
     ops: &mut CodeDraft<'_>,
     act: Act,

@@ -1,4 +1,4 @@
-// What holds of codes: calls that do nothing, whose contracts are the laws.
+// Worked examples of codes. The function does nothing; its contract states the examples.
 ghost use Rattle.std.specs.Prelude.{[]};
 ghost use Rattle.cs_base.specs.declared.spaces.Spaces.{Spaces};
 ghost use Rattle.cs_ir.specs.declared.op.Code.{Code};
@@ -6,8 +6,8 @@ ghost use Rattle.cs_code.specs.Examples.{IsMadeOf, counter, counter_counts, coun
 ghost use Rattle.cs_code.specs.Examples.{terms, terms_counts, terms_perf, tone, tone_counts, tone_init, tone_perf};
 ghost use Rattle.cs_code.specs.Lowered.{IsCodeOf};
 
-/// The codes of three small instruments, worked by hand: a variable that counts, a sum of four terms, and an oscillator
-/// that goes out.
+/// Worked examples: the codes of three small instruments, which have a variable that counts, a sum of four
+/// terms, and an oscillator that is output.
 pub fn codes_worked_by_hand()
     ensures counts { (spaces : Spaces) (init perf : Code)
         → IsMadeOf counter_init counter_counts init

@@ -13,7 +13,8 @@ use cs_base::{OutOfMemory, Rate};
 use cs_ir::CodeDraft;
 use cs_typed::{TypedExpr, Var};
 
-/// A variable takes the value of an expression, as often as the rate says. Returns what was met before the end.
+/// Emits the assignment of an expression's value to a variable, at this rate. Returns the progress at its
+/// end.
 pub fn assign(
     ops: &mut CodeDraft<'_>,
     context: Context,
@@ -35,7 +36,7 @@ pub fn assign(
     simple::assign(ops, context, p, &assignment)
 }
 
-/// The code of a condition, and where it stands.
+/// Emits the code of a condition, and returns the register that holds its value.
 #[tactic(auto, using(crate::proofs::Chains::tested))]
 pub fn condition(
     ops: &mut CodeDraft<'_>,

@@ -1,4 +1,4 @@
-// What an orchestra is performed by: the codes of each instrument, and of what stands outside of all.
+// The compiled form of an orchestra: the codes of each instrument, and of the statements outside instruments.
 ghost use Rattle.std.specs.Prelude.{◌≡◌, ◌++◌, ℕ, eqb, IfOk, OnOk, List};
 ghost use Rattle.std.specs.List.{AllZip, IsDistinct};
 ghost use Rattle.cs_base.specs.declared.spaces.Spaces.{Spaces};
@@ -16,16 +16,16 @@ use cs_typed::{TypedInstr, TypedOrc, TypedStmt};
 use std::alloc::Global;
 use std::sync::Arc;
 
-/// What an orchestra is performed by.
+/// The compiled form of an orchestra.
 #[derive(Drop)]
 pub struct Lowered {
-    /// What stands outside of instruments, as instrument 0.
+    /// The statements outside instruments, as instrument 0.
     pub zero: Instrument,
-    /// The instruments, by ascending number.
+    /// The instruments, in ascending order of their numbers.
     pub instruments: Instruments,
 }
 
-/// The codes of an orchestra, which mean its typed tree.
+/// Compiles an orchestra. The codes mean its typed tree.
 pub fn lower(alloc: Global, orc: &TypedOrc) -> Result<Lowered, OutOfMemory>
     requires rated { IsWellRated (typed.orchestra orc.now) }
     requires distinct { IsDistinct eqb (all_numbers (typed.orchestra orc.now).instrs) }
@@ -78,7 +78,7 @@ fn in_text(alloc: Global, orc: &TypedOrc, library: &Library) -> Result<Vec<Instr
     Ok(list)
 }
 
-// An instrument more, under each of its numbers.
+// Adds one more instrument, under each of its numbers.
 fn add_instr(
     alloc: Global,
     orc: &TypedOrc,
@@ -116,7 +116,7 @@ fn add_numbers(
     Ok(())
 }
 
-// The codes of a block, where all its numbers find them.
+// Generates the codes of a block, which all numbers of an instrument share.
 fn body_of(
     alloc: Global,
     orc: &TypedOrc,
@@ -145,7 +145,7 @@ fn body_of(
     Ok(Arc::new(alloc, body)?)
 }
 
-// Both codes of a block, with the registers and units that they name.
+// Joins both codes of a block, with the numbers of the registers and units that they use.
 fn joined(init: BlockOps, perf: BlockOps) -> Body
     requires { (spaces : Spaces) × (t : typed.Block) × IsRatedSomewhere t × AreCodes spaces t init perf }
     ensures { (spaces : Spaces) (s : Setting) (t : typed.Block) → IsRatedBlock s t → AreCodes spaces t init perf

@@ -1,4 +1,4 @@
-// Which tables, or which zak places, an op may touch, by the literals among its values.
+// The tables, or the zak places, that an op may touch, by the literals among its values.
 ghost use Rattle.std.specs.Prelude.{◌≡◌};
 ghost use Rattle.cs_meaning.specs.Core.{unit_reach, table_reach, zak_reach};
 ghost use Rattle.cs_code.specs.inner.Emitted.{known_at, known_of, table_known, expressions_of};
@@ -10,7 +10,7 @@ use cs_ir::{Reach, places_of};
 use cs_typed::{TypedExpr, TypedPart};
 use cs_words::{Opcode, Shape, signature_of};
 
-/// What is known of an argument: nothing where there is none, and of a literal the whole number below it.
+/// The known facts about an argument: that it is missing, or, for a literal, its value rounded down.
 #[derive(Clone, Copy)]
 pub enum KnownArgument {
     Missing,
@@ -18,7 +18,7 @@ pub enum KnownArgument {
     Other,
 }
 
-/// Which tables a unit of an opcode may touch, by its settled values: none where it takes none.
+/// The tables that a unit may touch, by its settled values; none if its opcode reads no table.
 pub fn unit_reach(opcode: Opcode, settled: &[&TypedExpr]) -> Reach
     ensures { result ≡ unit_reach opcode (expressions_of settled.now) }
 {
@@ -29,7 +29,7 @@ pub fn unit_reach(opcode: Opcode, settled: &[&TypedExpr]) -> Reach
     }
 }
 
-/// Which tables may be touched, by settled values of which the first is the number of a table.
+/// The tables that may be touched, by settled values. The first of them is the number of a table.
 #[tactic(auto, using(crate::proofs::Reaches::table_by))]
 pub fn table_reach(settled: &[&TypedExpr]) -> Reach
     ensures { result ≡ table_reach (expressions_of settled.now) }
@@ -37,7 +37,7 @@ pub fn table_reach(settled: &[&TypedExpr]) -> Reach
     table_of(known_first(settled))
 }
 
-/// Which zak places may be touched, by the values of an opcode of this shape.
+/// The zak places that may be touched, by the values of an opcode with this shape.
 #[tactic(auto, using(crate::proofs::Reaches::zak_by_known))]
 pub fn zak_reach(spaces: Spaces, shape: Shape, values: &[&TypedExpr]) -> Reach
     ensures { result ≡ zak_reach spaces shape (expressions_of values.now) }
@@ -96,7 +96,7 @@ fn span_of(places: u32, first: KnownArgument, last: KnownArgument) -> Reach
     }
 }
 
-// What is known of the first of some values, and of the second.
+// The known facts about the first of some values, and about the second.
 fn known_first(values: &[&TypedExpr]) -> KnownArgument
     ensures { result ≡ known_at (expressions_of values.now) 0 }
 {

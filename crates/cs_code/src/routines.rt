@@ -1,4 +1,4 @@
-// Routines: the code of each, made once, behind those that it may invoke.
+// The code of each routine, generated once, after the code of the routines that it may invoke.
 ghost use Rattle.std.specs.Prelude.{◌≡◌, ◌+◌, List, length, IfOk, OnOk};
 ghost use Rattle.cs_ir.specs.Routines.{AreRoutines, IsRoutineOf, library_in, ops_in};
 ghost use Rattle.cs_typed.specs.TypedTree as typed;
@@ -13,26 +13,26 @@ use cs_typed::{TypedStmt, TypedStmts};
 use std::alloc::Global;
 use std::sync::Arc;
 
-/// The code of statements, and how many values they keep and units they meet.
+/// The code of statements, with the number of values that they keep and of units in them.
 #[derive(Drop)]
 pub struct BlockCode {
     pub code: Routine,
     pub extent: Progress,
 }
 
-/// The routines of an orchestra as they are in one of a note's codes, by number, and how many values each keeps and
-/// units it meets.
+/// The routines of an orchestra in one pass, by number, with the number of values that each keeps and of
+/// units in it.
 #[derive(Drop)]
 pub struct Routines {
     pub list: Arc<Vec<Routine>, Global>,
     pub extents: Vec<Progress>,
 }
 
-/// How many routines a piece has at most, so that their registers and units can be counted.
+// The largest number of routines in a piece, so that their registers and units can be counted.
 const MOST: usize = 1 << 31;
 
-/// The routines of an orchestra in a pass. Each is made once, in the order of the text. More than there may be are
-/// reported as out of memory.
+/// Generates the routines of an orchestra for a pass. Each is generated once, in the order of the text. More
+/// routines than allowed are reported as out of memory.
 pub fn routines_of(context: Context, list: &[TypedStmts]) -> Result<Routines, OutOfMemory>
     ensures { IfOk result (λ m. AreMade context.pass context.spaces (typed.routines list.now) m) }
 {
@@ -48,7 +48,7 @@ pub fn routines_of(context: Context, list: &[TypedStmts]) -> Result<Routines, Ou
     })
 }
 
-// The same, behind routines that are made.
+// Generates further routines, after the ones that are in `made` already.
 fn add_routines(
     context: Context,
     made: &mut Vec<Routine>,
@@ -73,7 +73,7 @@ fn add_routines(
     Ok(())
 }
 
-/// The code of statements behind routines that they may invoke, of these extents.
+/// Generates the code of statements. `routines` are the routines that they may invoke, with their extents.
 pub fn code_of(
     context: Context,
     routines: &[Routine],

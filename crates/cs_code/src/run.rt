@@ -1,4 +1,4 @@
-// The code of what gives results: units, and what reads or writes zak places.
+// The code of opcodes with results: units, and opcodes that read or write zak places.
 ghost use Rattle.std.specs.Prelude.{◌≡◌, true, IfOk, OnOk};
 ghost use Rattle.cs_ir.specs.{Codes.is_unaimed, Drafts.Grew};
 ghost use Rattle.cs_code.specs.{inner.Kept.past_all, inner.Emitted.expressions_of, inner.Emitted.when_of};
@@ -25,7 +25,7 @@ fn target(rate: Rate, results: &[Var]) -> Result<Reg, OutOfMemory>
     }
 }
 
-// What is left to do once a result is there.
+// Emits the remaining code after a result was computed: if needed, its assignment to the result variable.
 #[tactic(auto, using(crate::proofs::Growing::growing))]
 fn give(ops: &mut CodeDraft<'_>, rate: Rate, results: &[Var]) -> Result<(), OutOfMemory>
     ensures { OnOk result (Grew ops.old ops.new (given_code rate results.now)) }
@@ -47,8 +47,8 @@ fn give(ops: &mut CodeDraft<'_>, rate: Rate, results: &[Var]) -> Result<(), OutO
     }
 }
 
-/// An op on values that gives a result where its opcode has one, and what is left to do then. Returns the number of the
-/// next kept value.
+/// Emits an op on values, whose result is assigned to a variable if its opcode has one. Returns the number of
+/// the next kept value.
 #[tactic(auto, using(crate::proofs::Growing::growing))]
 pub fn run(
     ops: &mut CodeDraft<'_>,

@@ -1,5 +1,4 @@
-// The code of simple statements, for either pass: what is done once or kept as the note begins, and what is done in
-// each cycle.
+// The code of simple statements, in either pass: as the note begins, and in each cycle.
 ghost use Rattle.std.specs.Prelude.{◌≡◌, IfOk, OnOk};
 ghost use Rattle.cs_base.specs.declared.resource.Rate.TheVariants as rate;
 ghost use Rattle.cs_ir.specs.Drafts.{Grew};
@@ -19,16 +18,16 @@ use cs_base::{OutOfMemory, Rate};
 use cs_ir::{Act, CodeDraft, Operands, Reach, Reg};
 use cs_typed::{TypedExpr, Var};
 
-/// To which channels values go.
+/// The channels to which values are output.
 #[derive(Clone, Copy)]
 pub enum Sending {
-    /// From the first on.
+    /// The channels in order, from the first on.
     InTurn,
-    /// In pairs of a channel's number and a value for it.
+    /// Pairs of a channel's number and a value for it.
     ByNumber,
 }
 
-/// A variable takes a value: how often, which variable, and what it takes.
+/// An assignment: its rate, the variable, and the value.
 #[derive(Clone, Copy)]
 pub struct Assignment<'t> {
     pub done: Rate,
@@ -36,7 +35,7 @@ pub struct Assignment<'t> {
     pub value: Value<'t>,
 }
 
-/// A variable takes a value: once, or in each cycle, for which the parts that don't change are kept.
+/// Emits an assignment: once as the note begins, or in each cycle; then its parts that don't change are kept.
 #[tactic(auto, using(crate::proofs::Growing::growing))]
 pub fn assign(
     ops: &mut CodeDraft<'_>,
@@ -64,7 +63,7 @@ pub fn assign(
     }
 }
 
-/// A unit: started as the note begins, and run then where it is done once, else in each cycle.
+/// Emits a unit: it is started as the note begins, and runs then if it is i-rate, otherwise in each cycle.
 #[tactic(auto, using(crate::proofs::Growing::growing))]
 pub fn unit(
     ops: &mut CodeDraft<'_>,
@@ -119,7 +118,7 @@ fn start(
     Ok(())
 }
 
-/// Zak places are read or written: once, or in each cycle.
+/// Emits an op that reads or writes zak places: once as the note begins, or in each cycle.
 #[tactic(auto, using(crate::proofs::Growing::growing))]
 pub fn zak(
     ops: &mut CodeDraft<'_>,
@@ -153,7 +152,8 @@ pub fn zak(
     }
 }
 
-/// A store: as the note begins its table must be there, and it stores then where it is done once, else in each cycle.
+/// Emits a store. As the note begins its table must exist; it stores then if it is i-rate, otherwise in each
+/// cycle.
 #[tactic(auto, using(crate::proofs::Growing::growing))]
 pub fn store(
     ops: &mut CodeDraft<'_>,
@@ -213,7 +213,7 @@ fn out_ops(ops: &mut CodeDraft<'_>, regs: &[Reg]) -> Result<(), OutOfMemory>
     Ok(())
 }
 
-// Pairs of a channel's number and a value for it.
+// Emits the ops that output pairs of a channel's number and a value for it.
 fn out_at_ops(ops: &mut CodeDraft<'_>, regs: &[Reg]) -> Result<(), OutOfMemory>
     ensures { OnOk result (Grew ops.old ops.new (out_at_ops regs.now)) }
 {
@@ -239,7 +239,8 @@ fn send_regs(ops: &mut CodeDraft<'_>, sending: Sending, regs: &[Reg]) -> Result<
     }
 }
 
-/// Values go out: their parts that don't change are kept as the note begins, and each cycle sends them.
+/// Emits the output of values. Their parts that don't change are kept as the note begins, and each cycle
+/// outputs the values.
 pub fn send(
     ops: &mut CodeDraft<'_>,
     context: Context,
@@ -267,7 +268,7 @@ pub fn send(
     }
 }
 
-/// Asks for a note, as the note begins.
+/// Emits the scheduling of a note, as the note begins.
 #[tactic(auto, using(crate::proofs::Growing::growing))]
 pub fn ask(
     ops: &mut CodeDraft<'_>,
@@ -285,7 +286,7 @@ pub fn ask(
     }
 }
 
-/// Ends the note with this cycle.
+/// Emits an op that ends the note after this cycle.
 #[tactic(auto, using(crate::proofs::Growing::growing))]
 pub fn turnoff(ops: &mut CodeDraft<'_>, context: Context) -> Result<(), OutOfMemory>
     ensures { OnOk result (Grew ops.old ops.new (pass_code context.pass 0 start (turnoff rate.Audio))) }

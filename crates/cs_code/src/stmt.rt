@@ -1,5 +1,5 @@
-// The code of statements, blocks and arms, for either pass. Each call appends to `ops`, in which each op stands at its
-// place from the first on.
+// The code of statements, blocks and arms, in either pass. Each function appends to `ops`, in which ops are
+// counted from the beginning of the code.
 ghost use Rattle.std.specs.Prelude.{◌≡◌, ◌++◌, ◌∷◌, [], ℕ, List, length, IfOk};
 ghost use Rattle.std.specs.List.{AllZip};
 ghost use Rattle.cs_ir.specs.Drafts.{Grew, IsAt, drafted, library_of};
@@ -19,7 +19,7 @@ use cs_base::{OutOfMemory, PerRate, Rate};
 use cs_ir::{Act, Call, CodeDraft, Mark, Operands};
 use cs_typed::{TypedArm, TypedStmt, TypedWhat};
 
-/// The code of the statements of a block. Returns what was met before its end.
+/// Emits the code of the statements of a block. Returns the progress at its end.
 #[cycle(stmt)]
 #[tactic(auto, using(crate::proofs::Chains::block_none, crate::proofs::Lists::append_nothing))]
 pub fn block(
@@ -40,7 +40,7 @@ pub fn block(
     Ok(next)
 }
 
-// The code of a statement. Returns what was met before its end.
+// Emits the code of a statement. Returns the progress at its end.
 #[cycle(stmt)]
 #[tactic(auto, using(crate::proofs::Calls::at_each_place, crate::proofs::Chains::taken_pass))]
 fn stmt(
@@ -81,7 +81,8 @@ fn stmt(
     }
 }
 
-// What the routine of a number does, with its local variables from these on; nothing where there is none.
+// Emits a call of a routine, by its number, with its local variables beginning at `base`; nothing if there is
+// no such routine.
 fn invoke(
     ops: &mut CodeDraft<'_>,
     context: Context,
@@ -119,7 +120,7 @@ fn narrowed(locals: PerRate<usize>) -> Result<PerRate<u32>, OutOfMemory>
     })
 }
 
-// Whether all arms of an `if` are initialised, because the conditions aren't known as the note begins.
+// Whether all arms of an `if` are initialised, because its conditions aren't known as the note begins.
 fn takes_all(pass: Pass, rate: Rate) -> bool
     ensures { result ≡ takes_all pass rate }
 {
@@ -129,7 +130,8 @@ fn takes_all(pass: Pass, rate: Rate) -> bool
     }
 }
 
-// Arms of which one is done, each of which ends with a jump; no end is known yet, and `ends` takes marks of the jumps.
+// Emits arms of which one is performed. Each ends with a jump whose target isn't known yet; `ends` collects
+// the marks of these jumps.
 #[cycle(stmt)]
 #[tactic(auto, using(crate::proofs::Lists::append_nothing))]
 fn arms_of(
@@ -155,7 +157,8 @@ fn arms_of(
     Ok(next)
 }
 
-// One of them: its condition, a jump past its body where that doesn't hold, its body, and the jump past the others.
+// Emits one such arm: its condition, a jump past its body that is taken if the condition doesn't hold, its
+// body, and a jump past the remaining arms.
 #[cycle(stmt)]
 fn arm(
     ops: &mut CodeDraft<'_>,
@@ -186,7 +189,7 @@ fn arm(
     Ok(next)
 }
 
-// Arms that are all initialised, since nothing is chosen yet.
+// Emits arms that are all initialised, since none is chosen yet.
 #[cycle(stmt)]
 fn each_arm(
     ops: &mut CodeDraft<'_>,

@@ -1,4 +1,4 @@
-// What a variable takes, and where a value stands already.
+// Values that are assigned to variables, and the registers that hold them already.
 ghost use Rattle.std.specs.Prelude.{◌≡◌, IfOk};
 ghost use Rattle.cs_typed.specs.TypedTree as typed;
 ghost use Rattle.cs_typed.specs.WellRated.{node_rate};
@@ -10,20 +10,20 @@ use cs_base::{OutOfMemory, Rate};
 use cs_ir::Reg;
 use cs_typed::{TypedExpr, TypedPart, Var};
 
-/// What a variable takes.
+/// A value that is assigned to a variable.
 #[derive(Clone, Copy)]
 pub enum Value<'t> {
     /// An expression's value.
     Of(&'t TypedExpr),
-    /// What a variable has, at a rate.
+    /// The value of a variable, read at a rate.
     Read(Rate, Var),
-    /// What a channel of sounds has and an expression are added.
+    /// The sum of an audio channel's value and an expression.
     Mixed(Var, &'t TypedExpr),
     /// The number 0.
     Zero,
 }
 
-/// How often a value changes.
+/// The rate at which a value changes.
 #[tactic(auto, using(crate::proofs::Nodes::rate_of_part))]
 pub fn rate_of(value: &Value<'_>) -> Rate
     ensures { result ≡ node_rate (value_of value.now) }
@@ -55,7 +55,7 @@ fn local_in(e: &TypedExpr) -> Result<Option<Reg>, OutOfMemory>
     }
 }
 
-/// Where a value stands already.
+/// The register that holds a value already, or None.
 pub fn direct(context: Context, at: u32, value: &Value<'_>) -> Result<Option<Reg>, OutOfMemory>
     ensures { IfOk result (λ q. q ≡ direct (when_of context.pass) at (value_of value.now)) }
 {

@@ -1,8 +1,8 @@
--- Jumps that are aimed.
+-- Jumps whose target is set.
 use Rattle.std.proofs.Common.{◌≡◌, ◌+◌, ◌++◌, ℕ, zero, suc, List, [], ◌∷◌, length, arith, ap, subst}
 use Rattle.cs_ir.specs.{Codes.aim, declared.op.Op.Op}
 
--- ops behind others
+-- setting a target in the second of two lists of ops
 pub aim_high : (xs ys : List Op) (n to : ℕ) → aim (length xs + n) to (xs ++ ys) ≡ xs ++ aim n to ys
 aim_high [] ys n to = let e : zero + n ≡ n = omega arith in ap (λ m. aim m to ys) e
 aim_high (x ∷ xs) ys n to =

@@ -1,4 +1,4 @@
--- Steps that are drafted, one behind the other, and jumps that are aimed.
+-- Drafting: steps are appended one after another, and the targets of jumps are set.
 use Rattle.std.proofs.Common.{◌≡◌, ◌∙◌, ◌+◌, ◌≤◌, ◌<◌, ◌++◌, ℕ, zero, suc, true, List, [], ◌∷◌, length, Some, eqb-true}
 use Rattle.std.proofs.Common.{get_or, leb-true, nat_le, slice_get, set, arith, refl, sym, ap, subst}
 use Rattle.std.proofs.lemmas.{Bool.and_from, Bool.and_parts, Bool.Decides.nat_tests, Option.slice_get_within}
@@ -13,9 +13,9 @@ use Rattle.cs_ir.specs.Flat.{place_of, placed, size, window_of}
 use Rattle.cs_ir.specs.declared.op.Act.TheVariants as act
 use Rattle.cs_ir.specs.declared.step.Step.TheVariants as step
 
--- ---- one step more
+-- ---- one more step
 
--- the ops of earlier steps stay, whose jumps go no further than behind them
+-- the ops of earlier steps are unchanged, because their jumps go at most to the end of these steps
 pub one_more : (rs : List (List Op)) (ss : List Step) (s : Step) → are_within (length ss) ss ≡ true
     → flat rs (ss ++ s ∷ []) ≡ flat rs ss ++ flat_step rs (λ to. place_of rs to (ss ++ s ∷ [])) (length (flat rs ss)) s
 one_more rs ss s within =
@@ -37,7 +37,7 @@ unaimed_stays f (act.Unless to) first un =
     ap act.Unless (ap f zero_is ∙ first ∙ sym zero_is)
 unaimed_stays f a first un = refl
 
--- an op, whose jump isn't aimed
+-- one more op, which isn't a jump with a target
 pub op_more : (rs : List (List Op)) (ss : List Step) (op : Op) → are_within (length ss) ss ≡ true
     → is_unaimed op.act ≡ true → flat rs (ss ++ step.Do op ∷ []) ≡ flat rs ss ++ op ∷ []
 op_more rs ss op within un =
@@ -45,13 +45,13 @@ op_more rs ss op within un =
     ∙ ap (λ (a : Act). flat rs ss ++ record op { act = a } ∷ [])
     (unaimed_stays (λ to. place_of rs to (ss ++ step.Do op ∷ [])) op.act refl un)
 
--- a call
+-- one more call
 pub call_more : (rs : List (List Op)) (ss : List Step) (c : Call) → are_within (length ss) ss ≡ true
     → flat rs (ss ++ step.Invoke c ∷ [])
     ≡ flat rs ss ++ moved_ops (window_of c) (length (flat rs ss)) (ops_at rs c.routine)
 call_more rs ss c within = one_more rs ss (step.Invoke c) within
 
--- ---- what marks stand for
+-- ---- the places of marks
 
 slice_get_more : {A : Type 0} (xs ys : List A) (n : ℕ) (x : A) → slice_get xs n ≡ Some x
     → slice_get (xs ++ ys) n ≡ Some x
@@ -95,13 +95,13 @@ grew_on a b c xs ys one two = record {
   marks = λ mark place h. two.marks mark place (one.marks mark place h);
 }
 
--- ---- a jump that is aimed
+-- ---- a jump whose target is set
 
 aimed_placed : (f : ℕ → ℕ) (to : ℕ) (a : Act) → placed f (aimed to a) ≡ aimed (f to) (placed f a)
 aimed_placed f to (act.Jump old) = refl
 aimed_placed f to a = refl
 
--- ---- steps of which one is aimed
+-- ---- steps in which the target of one is set
 
 pub step_set : (ss : List Step) (n to : ℕ) (s t : Step) → n < length ss → s ≡ get_or ss n s → t ≡ aimed_step to s
     → set ss n t ≡ aim_step n to ss
@@ -120,7 +120,7 @@ steps_stay (s ∷ ss) zero to = refl
 steps_stay (s ∷ ss) (suc n) to = ap suc (steps_stay ss n to)
 
 module _ (rs : List (List Op)) where
-  -- the step stands for one op as before, so all stand where they did
+  -- the step still expands to one op, so all places are unchanged
   pub places_stay : (to n : ℕ) (ss : List Step) (i : ℕ) → place_of rs n (aim_step i to ss) ≡ place_of rs n ss
   places_stay to (suc n) (step.Do op ∷ ss) zero = refl
   places_stay to (suc n) (s ∷ ss) (suc i) = ap (λ k. size rs s + k) (places_stay to n ss i)
@@ -146,7 +146,7 @@ module _ (rs : List (List Op)) where
       (λ j to. places_stay (length ss) to ss i j) ∙ aim_from f (length ss) 0 ss i op is
       ∙ ap (λ k. aim (place_of rs i ss) k (flat rs ss)) (sym (steps_long rs f 0 ss))
 
--- an op stays an op where a jump is aimed
+-- an op remains an op when the target of a jump is set
 op_stays : (ss : List Step) (n to m : ℕ) (op : Op) → slice_get ss m ≡ Some (step.Do op)
     → (new : Op) × (slice_get (aim_step n to ss) m ≡ Some (step.Do new))
 op_stays (step.Do x ∷ ss) zero to zero op is = (record x { act = aimed to x.act }, refl)
@@ -206,7 +206,7 @@ unaimed_within n (act.Jump to) un = ap (λ k. nat_le k n) (eqb-true to 0 un) ∙
 unaimed_within n (act.Unless to) un = ap (λ k. nat_le k n) (eqb-true to 0 un) ∙ le_true 0 n (omega arith)
 unaimed_within n a un = refl
 
--- aimed at a step, or behind all of them
+-- setting a target to a step, or to the end
 pub aim_within : (k : ℕ) (ss : List Step) (n to : ℕ) → are_within k ss ≡ true → to ≤ k
     → are_within k (aim_step n to ss) ≡ true
 aim_within k [] n to h low = refl
@@ -223,7 +223,7 @@ aim_within k (s ∷ ss) (suc n) to h low =
     let parts = and_parts (is_within k s) (are_within k ss) h in
     and_from _ _ parts.0 (aim_within k ss n to parts.1 low)
 
--- ---- drafts, in the words of the contracts
+-- ---- drafts, as the contracts speak of them
 
 pub draft_op : (d : Draft) (op : Op) → are_within (length d.steps) d.steps ≡ true → is_unaimed op.act ≡ true
     → Grew d (record d { steps = d.steps ++ step.Do op ∷ [] }) (op ∷ [])

@@ -1,4 +1,4 @@
--- A code is valid exactly where each of its ops is fine at its place.
+-- A code is valid if and only if each of its ops is fine at its place.
 use Rattle.std.proofs.Common.{◌≡◌, refl, ap, subst, ℕ, zero, suc, ◌+◌, true, List, [], ◌∷◌, slice_get, Option, Some}
 use Rattle.std.proofs.Common.{None, arith}
 use Rattle.std.proofs.lemmas.Bool.{and_parts, and_from}
@@ -12,7 +12,7 @@ first : (x y : Op) → Some x ≡ Some y → x ≡ y
 unfolding or_else
 first x y k = ap (or_else x) k
 
--- an op at a place of a code that is fine from some place on
+-- the op at a place of a code is fine, if the code is fine from an earlier place on
 pub fine_at : (c : Counts) (end place : ℕ) (ops : List Op) (n : ℕ) (o : Op) → fine_from c end place ops ≡ true
     → slice_get ops n ≡ Some o → is_fine c end (place + n) o ≡ true
 fine_at c end place [] n o h e = absurd (cc)

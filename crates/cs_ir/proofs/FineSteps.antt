@@ -1,4 +1,4 @@
--- Ops of steps are fine where a routine's window is, wherever they stand in a code.
+-- Ops of steps are fine in a routine's window, at any place of a code.
 use Rattle.std.proofs.Common.{◌≡◌, ◌∙◌, ◌+◌, ◌<◌, ◌≤◌, ◌++◌, ◌&&◌, ◌||◌, not, ℕ, suc, Bool, true, false, List, [], ◌∷◌}
 use Rattle.std.proofs.Common.{drop, length, map, nat_le, nat_lt, slice_get, Some, arith, refl, sym, ap, ltb-true}
 use Rattle.std.specs.List.{list_all}
@@ -37,7 +37,7 @@ module _ (rs : List (List Op)) (ss : List Step) (at : ℕ) (op : Op) (is : slice
   next : place_of rs (suc at) ss ≡ place_of rs at ss + 1
   next = place_next rs at ss (step.Do op) is
 
-  -- a later step's ops stand behind the op
+  -- a later step's ops come after the op
   pub later_place : (p to : ℕ) → nat_lt (p + place_of rs at ss) (p + place_of rs to ss) ≡ nat_lt at to
   later_place p to = by_test (nat_lt at to)
       (λ yes. let low : at < to = ltb-true at to yes in
@@ -56,7 +56,7 @@ module _ (rs : List (List Op)) (ss : List Step) (at : ℕ) (op : Op) (is : slice
       let last = place_end rs to ss in
       let low : p + place_of rs to ss ≤ end = omega (arith, last, room) in grind (arith, nat_tests)
 
--- ---- what an act takes doesn't depend on where registers begin
+-- ---- the operands that an act accepts don't depend on where registers begin
 
 module _ (w : Begins) where
   writes_moved : (f : ℕ → ℕ) (p : ℕ) (a : Act) → writes (moved_act w p (placed f a)) ≡ writes a
@@ -122,9 +122,9 @@ module _ (rs : List (List Op)) (ss : List Step) (at : ℕ) (op : Op) (is : slice
       let takes = takes_moved w f op.from p op.act (rate_at op.into) in
       λ i. (not (does i) || has_register c (moved_reg w op.into)) && read i && found i && takes i
 
--- ---- the steps from a number on
+-- ---- the steps from an index on
 
--- whether the ops of the steps from a number on are fine where they come to stand
+-- whether the ops of the steps from index i on are fine at their places
 abbrev pub fine_after : List (List Op) → List Step → Begins → Counts → ℕ → ℕ → ℕ → Bool
 fine_after rs ss w c p end i =
     fine_from c end (p + place_of rs i ss)
@@ -177,9 +177,9 @@ module _ (rs : List (List Op)) (ss : List Step) (w : Begins) (c : Counts) (p end
         ∙ (λ j. fine_from c end (p + q) (both j) && fine_from c end (far j)
         (moved_ops w p (flat_from rs (λ to. place_of rs to ss) (next j) (drop (suc i) ss))))
 
--- ---- a loop over steps: what is asked of all is asked of those from its number on
+-- ---- a loop over steps: the question about all steps is the question about the steps from index i on
 
--- whatever stands behind, and wherever all of them stand
+-- the loop has passed the first i steps, for every end of the code and every place of the steps
 abbrev pub HasPassed : List (List Op) → List Step → Begins → Counts → ℕ → Type 0
 HasPassed rs ss w c i = (end p : ℕ) → p + length (flat rs ss) ≤ end
     → fine_from c end p (moved_ops w p (flat rs ss)) ≡ fine_after rs ss w c p end i
@@ -195,7 +195,7 @@ module _ (rs : List (List Op)) (ss : List Step) (w : Begins) (c : Counts) where
       → true ≡ fine_from c end p (moved_ops w p (flat rs ss))
   passed_all i far past end p room = sym (past end p room ∙ fine_last rs ss w c p end i far)
 
-  -- whether the ops of the step of a number are fine, wherever all of them stand
+  -- whether the ops of step i are fine, for every end of the code and every place of the steps
   abbrev pub IsTurn : ℕ → Bool → Type 0
   IsTurn i answer = (end p : ℕ) → p + length (flat rs ss) ≤ end
       → fine_after rs ss w c p end i ≡ (answer && fine_after rs ss w c p end (suc i))

@@ -1,4 +1,4 @@
--- Routines behind others: what stands for a routine, wherever it is invoked.
+-- The ops of a routine in a list of routines, at any place where it is invoked.
 use Rattle.std.proofs.Common.{◌≡◌, ◌∙◌, ◌+◌, ◌<◌, ◌≤◌, ◌++◌, ℕ, zero, suc, List, [], ◌∷◌, length, map, take, drop, Some}
 use Rattle.std.proofs.Common.{get_or, ltb-true, nat_lt, slice_get, true, arith, refl, sym, ap, subst}
 use Rattle.std.proofs.lemmas.{Option.slice_get-get_or, List.take-append-drop}
@@ -12,7 +12,7 @@ use Rattle.cs_ir.specs.declared.step.Step.TheVariants as step
 
 -- ---- lists of ops, routine by routine
 
--- those that were there first stay
+-- the ops of the first routines stay the first
 pub more_both : (rs : List (List Op)) (xs ys : List (List Step))
     → more_routines rs (xs ++ ys) ≡ more_routines (more_routines rs xs) ys
 more_both rs [] ys = refl
@@ -25,7 +25,7 @@ more_long rs (x ∷ xs) =
     let one = length-append rs (flat rs x ∷ []) in
     omega (arith, rest, one)
 
--- a routine by its number among those that were there first
+-- the ops of a routine that is among the first ones
 pub more_first : (rs : List (List Op)) (xs : List (List Step)) (n : ℕ) → n < length rs
     → ops_at (more_routines rs xs) n ≡ ops_at rs n
 more_first rs [] n low = refl
@@ -37,7 +37,7 @@ at_end : (rs : List (List Op)) (x : List Op) → ops_at (rs ++ x ∷ []) (length
 at_end [] x = refl
 at_end (r ∷ rs) x = at_end rs x
 
--- the routine of a number stands for its steps behind the earlier ones
+-- the routine with a number expands to its steps, which invoke earlier routines
 pub more_at : (rs : List (List Op)) (list : List Routine) (n : ℕ) (r : Routine) → slice_get list n ≡ Some r
     → ops_at (more_routines rs (map steps_of list)) (length rs + n)
     ≡ ops_in (more_routines rs (map steps_of (take n list))) r
@@ -60,7 +60,7 @@ pub routine_at : (list : List Routine) (n : ℕ) (r : Routine) → slice_get lis
 routine_at list n r is =
     let here : n ≡ 0 + n = omega arith in ap (ops_at (library_in list)) here ∙ more_at [] list n r is
 
--- none is there of a number that no routine has
+-- a number that no routine has gives no ops
 pub routine_none : (list : List Routine) (n : ℕ) → length list ≤ n → ops_at (library_in list) n ≡ []
 routine_none list n far = past (library_in list) n (let e = more_long [] (map steps_of list) in
     let f = mapped list in omega (arith, far, e, f))
@@ -78,14 +78,14 @@ pub routine_empty : (list : List Routine) (n : ℕ) (r : Routine) → slice_get 
     → ops_at (library_in list) n ≡ []
 routine_empty list n r is none = routine_at list n r is ∙ ap (flat (library_in (take n list))) none
 
--- a routine as code finds it
+-- a routine as the code finds it
 pub found : (list : List Routine) (n : ℕ) (r : Routine) → true ≡ nat_lt n (length list) → r ≡ get_or list n r
     → slice_get list n ≡ Some r
 found list n r there is = slice_get-get_or list n r (ltb-true n (length list) (sym there)) ∙ ap Some (sym is)
 
--- ---- what routines keep
+-- ---- the stored data of routines
 
--- one of some routines, behind the earlier ones
+-- one of the routines, given the ones before it
 pub each_from : (before : List (List Op)) (list : List Routine) (n : ℕ) (r : Routine) → AreRoutinesFrom before list
     → slice_get list n ≡ Some r → IsRoutineOf (more_routines before (map steps_of (take n list))) r
 each_from before [] n r h is = absurd (cc)
@@ -96,7 +96,7 @@ pub each_routine : (list : List Routine) (n : ℕ) (r : Routine) → AreRoutines
     → IsRoutineOf (library_in (take n list)) r
 each_routine list n r h is = each_from [] list n r h is
 
--- one routine more
+-- one more routine
 more_from : (before : List (List Op)) (list : List Routine) (r : Routine) → AreRoutinesFrom before list
     → IsRoutineOf (more_routines before (map steps_of list)) r → AreRoutinesFrom before (list ++ r ∷ [])
 more_from before [] r h is = (is, tt)
@@ -133,7 +133,7 @@ one_call [] first call some few is = absurd (omega (arith, some))
 one_call (s ∷ []) first call some few is = ap (λ x. x ∷ []) is
 one_call (s ∷ r ∷ rest) first call some few is = absurd (omega (arith, few))
 
--- a routine that calls an earlier one and does nothing else stands for that one, in the windows of both calls
+-- a routine that only calls an earlier one has the ops of that one, in the windows of both calls
 pub called_once : (list : List Routine) (n : ℕ) (r : Routine) (call inner : Call) → slice_get list n ≡ Some r
     → n ≤ length list → steps_of r ≡ step.Invoke inner ∷ [] → inner.routine < n → (place : ℕ)
     → moved_ops (further (window_of call) (window_of inner)) place (ops_at (library_in list) inner.routine)

@@ -1,4 +1,4 @@
--- Windows that leave room for numbers of 32 bits.
+-- Windows that leave room for 32-bit numbers.
 use Rattle.std.proofs.Common.{◌≡◌, ◌+◌, ◌*◌, ◌<◌, ◌≤◌, ◌^◌, ◌&&◌, ℕ, true, nat_le, arith, le-leb}
 use Rattle.std.proofs.lemmas.Bool.{and_from}
 use Rattle.cs_base.specs.{Rates.at_rate, declared.resource.Rate.Rate}
@@ -23,7 +23,7 @@ module _ (n : ℕ) (w : Begins) (low : IsLow n w) where
       (le-leb w.locals.audio (2 ^ 63) (omega (arith, audio)))) (le-leb w.kept (2 ^ 63) (omega (arith, kept))))
       (le-leb w.unit (2 ^ 63) (omega (arith, unit)))
 
-  -- what is behind by numbers of 32 bits nests less deep
+  -- a window that is further by 32-bit numbers may nest one level less
   pub further_low : (k : ℕ) (v : Begins) → k < n → v.locals.init < 2 ^ 32 → v.locals.control < 2 ^ 32
       → v.locals.audio < 2 ^ 32 → v.kept < 2 ^ 32 → v.unit < 2 ^ 32 → IsLow k (further w v)
   further_low k v less i c a kept unit = record {
@@ -37,7 +37,7 @@ module _ (n : ℕ) (w : Begins) (low : IsLow n w) where
       by_rate rate.Control = let old = low.locals rate.Control in omega (arith, old, c, less)
       by_rate rate.Audio = let old = low.locals rate.Audio in omega (arith, old, a, less)
 
--- a code as a whole, of as many routines as there may be
+-- the window of a complete code, with as many routines as allowed
 pub whole_low : (n : ℕ) → n ≤ 2 ^ 31 → IsLow n no_window
 whole_low n few = record { locals = by_rate; kept = omega (arith, few); unit = omega (arith, few) }
   where

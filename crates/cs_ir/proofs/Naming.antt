@@ -1,4 +1,4 @@
--- Lists that name the same resources; and what steps touch, by their own ops and by the routines that they invoke.
+-- Lists that name the same resources; and the resources that steps touch, directly and through routines.
 use Rattle.std.proofs.Common.{◌≡◌, ◌∙◌, ◌+◌, ◌<◌, ◌≤◌, ◌++◌, ◌↔◌, ℕ, zero, suc, List, [], ◌∷◌, length, map, take, Bool}
 use Rattle.std.proofs.Common.{true, Some, ◌&&◌, eqb-true, get_or, slice_get, arith, refl, sym, ap, subst, nat_eq}
 use Rattle.std.proofs.Common.{⊎_elim, None, Option}
@@ -27,7 +27,7 @@ use Rattle.cs_ir.specs.declared.op.Reach.TheVariants as reach
 use Rattle.cs_ir.specs.declared.step.Step.TheVariants as step
 use Rattle.cs_ir.specs.declared.touches.Touch.TheVariants as touch
 
--- ---- lists that name the same
+-- ---- lists that name the same resources
 
 pub same_itself : (xs : List Res) → NameTheSame xs xs
 same_itself xs g = (λ c. c, λ c. c)
@@ -53,11 +53,11 @@ turned xs ys zs g c =
     (λ b. Contains-append_right ys (xs ++ zs) g (Contains-append_right xs zs g b)) (Contains-append_cases ys zs g d))
     (Contains-append_cases xs (ys ++ zs) g c)
 
--- the first two of three lists, in either order
+-- the first two of three lists can be exchanged
 pub same_turned : (xs ys zs : List Res) → NameTheSame (xs ++ (ys ++ zs)) (ys ++ (xs ++ zs))
 same_turned xs ys zs g = (turned xs ys zs g, turned ys xs zs g)
 
--- ---- what lists of elements give
+-- ---- the resources that lists of elements name
 
 module _ {X : Type 0} (f : X → List Res) where
   first_is : (y x : X) → Contains (y ∷ []) x → y ≡ x
@@ -81,20 +81,20 @@ module _ {X : Type 0} (f : X → List Res) where
       → Contains (flat_map f ys) g
   given xs ys h g c = let r = given_by xs g c in gives ys r.0 g (h r.0 r.1) r.2
 
-  -- lists of the same elements, however often
+  -- lists of the same elements, repeated any number of times, name the same resources
   pub same_given : (xs ys : List X) → ((x : X) → Contains xs x ↔ Contains ys x)
       → NameTheSame (flat_map f xs) (flat_map f ys)
   same_given xs ys h g = (given xs ys (λ x. (h x).0) g, given ys xs (λ x. (h x).1) g)
 
 module _ {X Y : Type 0} (f : X → List Y) where
-  -- one element more of those that are looked at in turn
+  -- one more element of a loop
   pub flat_next : (xs : List X) (i : ℕ) (x : X) → i < length xs → x ≡ get_or xs i x
       → flat_map f (take i xs) ++ f x ≡ flat_map f (take (i + 1) xs)
   flat_next xs i x low is =
       ap (λ l. flat_map f (take i xs) ++ l) (sym (append-nil (f x))) ∙ sym (flat_map-append f (take i xs) (x ∷ []))
       ∙ ap (flat_map f) (ap (λ y. take i xs ++ y ∷ []) is ∙ sym (take_more xs i x low))
 
--- ---- what is touched, where something is
+-- ---- a touch, if there is one
 
 pub touch_added : (stock : Stock) (old : List Touch) (t : Touch) (found : Option Touch) → found ≡ Some t
     → named stock (old ++ t ∷ []) ≡ named stock old ++ named_by stock found
@@ -126,7 +126,7 @@ module _ (t : Access) (stock : Stock) where
 -- ---- steps
 
 module _ (t : Access) (stock : Stock) (rs : List (List Op)) where
-  -- what steps touch themselves, and behind it what routines touch
+  -- the resources that steps touch themselves, followed by the resources that routines touch
   pub steps_name_from : (f : ℕ → ℕ) (p : ℕ) (ss : List Step)
       → NameTheSame (own_touches t stock ss ++ routines_touch t stock rs (invoked ss))
       (ops_touch t stock (flat_from rs f p ss))
@@ -165,7 +165,7 @@ module _ (t : Access) (stock : Stock) (rs : List (List Op)) where
 
 -- ---- routines
 
--- what a routine keeps of what it touches is what its ops touch, wherever it is invoked
+-- the stored touches of a routine are the touches of its ops, at any place where it is invoked
 pub routine_touches : (t : Access) (list : List Routine) (n : ℕ) (r : Routine) (stock : Stock) → AreRoutines list
     → slice_get list n ≡ Some r
     → NameTheSame (named stock (kept t r.touches)) (ops_touch t stock (ops_at (library_in list) n))
@@ -178,21 +178,21 @@ routine_touches t list n r stock are is =
     by may_use = (each_routine list n r are is).used stock
     by may_write = (each_routine list n r are is).written stock
 
--- none is touched by a routine that isn't there
+-- a routine that doesn't exist touches nothing
 pub none_added : (t : Access) (stock : Stock) (list : List Routine) (n : ℕ) (now : List Res) → length list ≤ n
     → NameTheSame now (now ++ ops_touch t stock (ops_at (library_in list) n))
 none_added t stock list n now far =
     same_is now (now ++ ops_touch t stock (ops_at (library_in list) n))
     (sym (append-nil now) ∙ ap (λ ops. now ++ ops_touch t stock ops) (sym (routine_none list n far)))
 
--- a list to which what names the same is added
+-- adding lists that name the same resources
 pub same_added : (before now more touched : List Res) → now ≡ before ++ more → NameTheSame more touched
     → NameTheSame now (before ++ touched)
 same_added before now more touched is same =
     subst (λ l. NameTheSame l (before ++ touched)) (sym is)
     (same_both before before more touched (same_itself before) same)
 
--- one routine more of those that are looked at in turn
+-- one more routine of a loop
 pub same_next : (t : Access) (stock : Stock) (rs : List (List Op)) (ns : List ℕ) (i n : ℕ) (before now then : List Res)
     → i < length ns → n ≡ get_or ns i 0 → NameTheSame now (before ++ routines_touch t stock rs (take i ns))
     → NameTheSame then (now ++ ops_touch t stock (ops_at rs n))
@@ -207,7 +207,7 @@ same_next t stock rs ns i n before now then low is old new =
     (append_assoc before past ops
     ∙ ap (λ l. before ++ l) (flat_next (λ k. ops_touch t stock (ops_at rs k)) ns i n low here))))
 
--- own ops and routines, the numbers of which stand in any order and number
+-- the resources of the steps' own ops and of routines, listed in any order and with any repetitions
 pub same_all : (t : Access) (stock : Stock) (rs : List (List Op)) (ss : List Step) (ns : List ℕ) (own now : List Res)
     → own ≡ own_touches t stock ss → ((n : ℕ) → Contains ns n ↔ Contains (invoked ss) n)
     → NameTheSame now (own ++ routines_touch t stock rs ns) → NameTheSame now (ops_touch t stock (flat rs ss))
@@ -219,7 +219,7 @@ same_all t stock rs ss ns own now is numbers same =
     (same_is own (own_touches t stock ss) is)
     (same_given (λ k. ops_touch t stock (ops_at rs k)) ns (invoked ss) numbers)) (steps_name t stock rs ss))
 
--- ---- what is touched is known by its numbers
+-- ---- a touch is determined by its key
 
 reach_at : ℕ → ℕ → ℕ → Reach
 reach_at zero a b = reach.Nothing
@@ -250,7 +250,7 @@ known (touch.Places space.Control reach.Nothing) = refl
 known (touch.Places space.Audio reach.Nothing) = refl
 known t = refl
 
--- whether two have the same numbers
+-- whether two touches have the same key
 abbrev pub same_key : Touch → Touch → Bool
 same_key s t =
     ((nat_eq (key_of s).0 (key_of t).0 && nat_eq (key_of s).1 (key_of t).1) && nat_eq (key_of s).2 (key_of t).2)
@@ -275,7 +275,7 @@ same_key_laws =
     (on_equiv (λ (s : Touch). (key_of s).1) nat_eq_equiv))
     (on_equiv (λ (s : Touch). (key_of s).2) nat_eq_equiv)) (on_equiv (λ (s : Touch). (key_of s).3) nat_eq_equiv)
 
--- a list in another order, of which each is left once
+-- each touch occurs in a list if and only if it occurs in the reordered list without repetitions
 pub each_once : (xs ys zs : List Touch) (t : Touch) → IsPermutation xs ys → zs ≡ dedup same_key ys
     → Contains zs t ↔ Contains xs t
 each_once xs ys zs t moved left = (

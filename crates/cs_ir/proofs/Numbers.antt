@@ -1,4 +1,4 @@
--- Instruments by their numbers.
+-- Sorting instruments by number.
 use Rattle.std.proofs.Common.{◌≡◌, ℕ, List, [], ◌∷◌, length, get_or, eqb, arith}
 use Rattle.std.specs.List.{IsDistinct}
 use Rattle.std.specs.List.Sorted.{IsPermutation, IsStrictlyIncreasing, IsNonDecreasing, IsNonDecreasingBy}
@@ -9,7 +9,7 @@ use Rattle.cs_ir.specs.Instruments.{Numbered, numbers_of}
 flips : (a b : ℕ) → eqb a b ≡ eqb b a
 flips a b = grind (arith, nat_tests)
 
--- a sort by number brings distinct numbers into rising order
+-- distinct numbers are strictly increasing after a sort
 pub rising : (xs ys : List Numbered) → IsPermutation xs ys → IsNonDecreasing (numbers_of ys)
     → IsDistinct eqb (numbers_of xs) → IsStrictlyIncreasing (numbers_of ys)
 rising xs ys p up d =

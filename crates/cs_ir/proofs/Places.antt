@@ -1,4 +1,4 @@
--- Where the ops of steps come to stand.
+-- The places of the ops of steps.
 use Rattle.std.proofs.Common.{◌≡◌, ◌∙◌, ◌+◌, ◌≤◌, ◌++◌, ℕ, zero, suc, true, List, [], ◌∷◌, length, Some, slice_get}
 use Rattle.std.proofs.Common.{arith, refl, sym, ap, leb-true}
 use Rattle.std.proofs.lemmas.{Bool.and_parts, List.append_assoc, List.length-append, List.length-map}
@@ -9,7 +9,7 @@ use Rattle.cs_ir.specs.declared.op.Act.TheVariants as act
 use Rattle.cs_ir.specs.declared.step.Step.TheVariants as step
 
 module _ (rs : List (List Op)) where
-  -- ---- how many ops steps stand for
+  -- ---- the number of ops of steps
 
   pub step_long : (f : ℕ → ℕ) (p : ℕ) (s : Step) → length (flat_step rs f p s) ≡ size rs s
   step_long f p (step.Do op) = refl
@@ -29,20 +29,20 @@ module _ (rs : List (List Op)) where
   place_more (suc n) [] more low = absurd (omega (arith, low))
   place_more (suc n) (s ∷ ss) more low = ap (λ k. size rs s + k) (place_more n ss more (omega (arith, low)))
 
-  -- a later step's ops don't come to stand before those of an earlier one
+  -- a later step's ops don't come before an earlier step's ops
   pub place_later : (m n : ℕ) (ss : List Step) → m ≤ n → place_of rs m ss ≤ place_of rs n ss
   place_later zero n ss low = omega arith
   place_later (suc m) zero ss low = absurd (omega (arith, low))
   place_later (suc m) (suc n) [] low = omega arith
   place_later (suc m) (suc n) (s ∷ ss) low = let e = place_later m n ss (omega (arith, low)) in omega (arith, e)
 
-  -- none stands behind all of them
+  -- no place is beyond the end of all ops
   pub place_end : (n : ℕ) (ss : List Step) → place_of rs n ss ≤ place_of rs (length ss) ss
   place_end zero ss = omega arith
   place_end (suc n) [] = omega arith
   place_end (suc n) (s ∷ ss) = let e = place_end n ss in omega (arith, e)
 
-  -- what stands behind a step
+  -- the place after a step
   pub place_next : (n : ℕ) (ss : List Step) (s : Step) → slice_get ss n ≡ Some s
       → place_of rs (suc n) ss ≡ place_of rs n ss + size rs s
   place_next n [] s is = absurd (cc)
@@ -52,7 +52,7 @@ module _ (rs : List (List Op)) where
   place_next (suc n) (x ∷ ss) s is =
       let more = place_next n ss s is in omega (arith, more)
 
-  -- ---- jumps that go within some steps
+  -- ---- jumps that go to one of these steps, or to their end
 
   placed_alike : (f g : ℕ → ℕ) (n : ℕ) (a : Act) → ((to : ℕ) → to ≤ n → f to ≡ g to) → goes_within n a ≡ true
       → placed f a ≡ placed g a
@@ -75,7 +75,7 @@ module _ (rs : List (List Op)) where
       let rest = steps_alike f g n (p + size rs s) ss same parts.1 in
       λ i. one i ++ rest i
 
-  -- ---- steps behind others
+  -- ---- steps followed by other steps
 
   pub steps_both : (f : ℕ → ℕ) (p : ℕ) (ss more : List Step)
       → flat_from rs f p (ss ++ more) ≡ flat_from rs f p ss ++ flat_from rs f (p + place_of rs (length ss) ss) more

@@ -1,4 +1,4 @@
--- How far the registers of steps reach, by those of their ops and of the routines that they invoke.
+-- The register limits of steps, from the limits of their ops and of the routines that they invoke.
 use Rattle.std.proofs.Common.{◌≡◌, ◌∙◌, ◌+◌, ◌++◌, ◌<◌, ℕ, zero, suc, List, [], ◌∷◌, length, map, max, get_or}
 use Rattle.std.proofs.Common.{if◌then◌else◌, slice_get, take, Some, ◌≤◌, arith, refl, sym, ap}
 use Rattle.std.proofs.lemmas.List.{take_more}
@@ -12,7 +12,7 @@ use Rattle.cs_ir.specs.Registers.{at_kind, most, reg_limit, regs_limit, same_kin
 use Rattle.cs_ir.specs.inner.Reaching.{behind, call_limit, step_limit, steps_limit}
 use Rattle.cs_ir.specs.declared.step.Step.TheVariants as step
 
--- ---- the greatest of some numbers
+-- ---- the greatest number of a list
 
 max_none : (n : ℕ) → max n 0 ≡ n
 max_none n = omega arith
@@ -22,7 +22,7 @@ module _ {X : Type 0} (f : X → ℕ) where
   most_both [] ys = omega arith
   most_both (x ∷ xs) ys = let rest = most_both xs ys in omega (arith, rest)
 
-  -- one more of those that are looked at in turn
+  -- one more element of a loop
   pub most_next : (xs : List X) (i : ℕ) (d : X) → i < length xs
       → max (most f (take i xs)) (f (get_or xs i d)) ≡ most f (take (i + 1) xs)
   most_next xs i d low =
@@ -93,7 +93,7 @@ steps_from rs k f p (s ∷ ss) =
 pub steps_end : (rs : List (List Op)) (k : Kind) (ss : List Step) → ops_limit k (flat rs ss) ≡ steps_limit rs k ss
 steps_end rs k ss = steps_from rs k (λ to. place_of rs to ss) 0 ss
 
--- ---- a call, by what its routine keeps
+-- ---- a call, from the stored limits of its routine
 
 pub call_there : (list : List Routine) (k : Kind) (c : Call) (r : Routine) → AreRoutines list
     → slice_get list c.routine ≡ Some r
@@ -107,7 +107,7 @@ pub call_missing : (list : List Routine) (k : Kind) (c : Call) → length list �
 call_missing list k c far =
     ap (λ ops. behind (begin_of (window_of c) k) (ops_limit k ops)) (routine_none list c.routine far)
 
--- one limit more of those that were added
+-- one more limit of a loop
 pub more_limit : (old sum here all before new : ℕ) → new ≡ max before here → before ≡ max old sum
     → max sum here ≡ all → new ≡ max old all
 more_limit old sum here all before new is was more = omega (arith, is, was, more)

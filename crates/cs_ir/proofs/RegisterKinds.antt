@@ -1,4 +1,4 @@
--- Kinds of registers, known by their numbers.
+-- Kinds of registers, which are determined by their numbers.
 use Rattle.std.proofs.Common.{◌≡◌, ◌∙◌, ◌<◌, ◌^◌, ℕ, zero, suc, true, List, [], ◌∷◌, arith, eqb-true, ltb-true, refl}
 use Rattle.std.proofs.Common.{sym, ap, eqb, eq-eqb}
 use Rattle.std.specs.List.{list_all}
@@ -31,7 +31,7 @@ kind_is j k h =
 pub kind_same : (k : Kind) → same_kind k k ≡ true
 kind_same k = eq-eqb (kind_number k) (kind_number k) refl
 
--- a register is known by its kind and its number
+-- a register is determined by its kind and its number
 pub same_reg_is : (p q : Reg) → same_reg p q ≡ true → p ≡ q
 same_reg_is p q h =
     let both = and_parts (same_kind p.kind q.kind) (eqb p.offset q.offset) h in
@@ -42,12 +42,12 @@ same_reg_is p q h =
 pub same_reg_here : (q : Reg) → same_reg q q ≡ true
 same_reg_here q = rw (kind_same q.kind, eq-eqb q.offset q.offset refl) refl
 
--- how often a local variable's register changes
+-- the rate of a local variable's register
 pub local_rate : (r : Rate) → rate_of (local r) ≡ r
 local_rate rate.Init = refl
 local_rate a = refl
 
--- registers that there are have numbers of 32 bits
+-- existing registers have 32-bit numbers
 pub there_small : (c : Counts) (q : Reg) → has_register c q ≡ true → is_small q ≡ true
 there_small c q there =
     let low : q.offset < at_kind c.registers q.kind = ltb-true _ _ there in

@@ -1,4 +1,4 @@
--- What a valid op tells of its opcode's shape.
+-- The shape of a valid op's opcode.
 use Rattle.std.proofs.Common.{◌≡◌, ◌&&◌, true, List, length, refl}
 use Rattle.std.specs.List.{list_all}
 use Rattle.std.proofs.lemmas.Bool.{and_parts}
@@ -13,7 +13,7 @@ pub shape_is : (s : Shape) → is_unit s ≡ true → s ≡ shape.Unit
 shape_is shape.Unit h = refl
 shape_is a h = absurd (cc)
 
--- what is started, and what runs as a unit, is one
+-- an opcode that is started, or that runs as a unit, is a unit
 pub started_shape : (o : Opcode) (r : Rate) (xs : List Reg) → starts_with (row_of o) r xs ≡ true
     → (row_of o).shape ≡ shape.Unit
 started_shape o r xs h =

@@ -1,4 +1,4 @@
--- Ops of a routine that another one invokes: moved by the call, and then with the routine that invokes it.
+-- Ops of a routine that another routine invokes: moved by the call, and then moved with the invoking routine.
 use Rattle.std.proofs.Common.{◌≡◌, ◌∙◌, ◌+◌, ◌++◌, ℕ, List, [], ◌∷◌, map, arith, refl, sym, ap}
 use Rattle.std.proofs.lemmas.List.{append-nil}
 use Rattle.cs_ir.specs.Flat.{Begins, begin_of, further, moved_act, moved_op, moved_ops, moved_reg, no_window}
@@ -41,7 +41,7 @@ ops_twice w v p q [] = refl
 ops_twice w v p q (op ∷ ops) =
     let one = op_twice w v p q op in let rest = ops_twice w v p q ops in λ i. one i ∷ rest i
 
--- in the window of a code as a whole ops are as they are
+-- in the window of a complete code, ops are unchanged
 whole_reg : (q : Reg) → moved_reg no_window q ≡ q
 whole_reg q = λ i. record { kind = q.kind; offset = none q.kind i }
   where
@@ -69,7 +69,7 @@ whole_ops (op ∷ ops) =
     let rest = whole_ops ops in
     λ i. record { act = does i; into = writes i; from = reads i } ∷ rest i
 
--- a call of what another call's routine calls, and nothing else
+-- the ops of a routine that only calls another one, for a call of this routine
 pub call_twice : (w v : Begins) (p : ℕ) (ops : List Op)
     → moved_ops (further w v) p ops ≡ moved_ops w p (moved_ops v 0 ops ++ [])
 call_twice w v p ops =

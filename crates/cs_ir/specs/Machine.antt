@@ -1,4 +1,5 @@
--- The run of a code: a fold over its ops, each done where no jump has passed over it and nothing was refused.
+-- The run of a code: a fold over its ops. An op is performed unless a jump skips it or the world has refused
+-- something.
 use Rattle.std.specs.Prelude.{ℕ, Bool, not, ◌&&◌, ◌+◌, ◌==◌, List, [], ◌∷◌, map, nat_le, if◌then◌else◌}
 use Rattle.cs_words.specs.{Catalogue.row_of, Catalogue.result_count, declared.catalogue.Opcode.Opcode}
 use Rattle.cs_ir.specs.{Registers.rate_at, Registers.same_kind, Values.holds, Values.negated, Values.applied}
@@ -11,38 +12,42 @@ use Rattle.cs_ir.specs.declared.op.Act.TheVariants as act
 abbrev pub same_reg : Reg → Reg → Bool
 same_reg p q = same_kind p.kind q.kind && p.offset == q.offset
 
+-- registers of which one is set to a value
 abbrev pub put : (Reg → Wave) → Reg → Wave → Reg → Wave
 put f r w q = if same_reg q r then w else f q
 
--- A machine in a world: its registers, the place of the next op that is to be done, and the world's state.
+-- A machine in a world: its registers, the place of the next op to be performed, and the world's state.
 pub record Machine (W : Type 0) : Type 0 where
   pub regs : Reg → Wave
   pub next : ℕ
   pub world : W
 
--- a machine as a code begins
+-- a machine at the beginning of a code
 abbrev pub new_machine : {W : Type 0} → W → Machine W
 new_machine x = record { regs = λ r. silence; next = 0; world = x }
 
--- the same registers as a code begins again, in another state of the world
+-- a machine with the same registers at the beginning of a code, in another state of the world
 abbrev pub again : {W : Type 0} → W → Machine W → Machine W
 again x m = record { regs = m.regs; next = 0; world = x }
 
+-- a machine in another state of the world
 abbrev pub in_world : {W : Type 0} → W → Machine W → Machine W
 in_world x m = record m { world = x }
 
+-- a register is written, with the value as stored at its rate
 abbrev pub write : {W : Type 0} → ℕ → Reg → Wave → Machine W → Machine W
 write ksmps into w m = record m { regs = put m.regs into (held ksmps (rate_at into) w) }
 
--- what an opcode gives goes into a register where it has a result
+-- whether an opcode has a result, which is written to a register
 abbrev pub gives : Opcode → Bool
 gives opcode = not (result_count (row_of opcode) == 0)
 
+-- an opcode has run: the new state of the world, and the result in a register if the opcode has one
 abbrev pub written : {W : Type 0} → ℕ → Opcode → Reg → W × Wave → Machine W → Machine W
 written ksmps opcode into (x, w) m =
     if gives opcode then write ksmps into w (in_world x m) else in_world x m
 
--- what an act does
+-- the effect of an act
 abbrev pub acts : {W : Type 0} → World W → Act → Reg → List Wave → Machine W → Machine W
 acts o (act.Const n) into ws m = write o.ksmps into (constant n) m
 acts o (act.Field k) into ws m = write o.ksmps into (constant (o.field k)) m
@@ -67,14 +72,15 @@ acts o act.OutAt into ws m = in_world (o.out_at (operand 0 ws) (operand 1 ws) m.
 acts o act.Turnoff into ws m = in_world (o.turnoff m.world) m
 acts o act.Ask into ws m = in_world (o.ask (first_values ws) m.world) m
 
--- An op at a place is done where no jump goes past it and the world has refused nothing.
+-- An op at a place is performed if no jump goes past it and the world has refused nothing.
 abbrev pub is_done : {W : Type 0} → World W → ℕ → Machine W → Bool
 is_done o place m = nat_le m.next place && not (o.refused m.world)
 
+-- one op is performed, unless it is skipped
 abbrev pub step : {W : Type 0} → World W → ℕ → Op → Machine W → Machine W
 step o place op m = if is_done o place m then acts o op.act op.into (map m.regs op.from) m else m
 
--- the ops from a place on, one after another
+-- the run of the ops from a place on, one after another
 abbrev pub run : {W : Type 0} → World W → ℕ → List Op → Machine W → Machine W
 run o place [] m = m
 run o place (op ∷ ops) m = run o (place + 1) ops (step o place op m)

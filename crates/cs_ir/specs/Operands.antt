@@ -3,12 +3,12 @@ use Rattle.std.specs.Prelude.{◌<◌, ◌≤◌, List, length, take}
 use Rattle.cs_ir.specs.{declared.operands.Stored.Stored, declared.register.Reg.Reg}
 use Rattle.cs_ir.specs.declared.operands.Stored.TheVariants as stored
 
--- what operands are as a list, wherever they are stored
+-- the list of stored operands
 abbrev pub registers : Stored → List Reg
 registers (stored.Few count xs) = take count xs
 registers (stored.More v) = v.items
 
--- three of them at most stand in the op itself, more of them in a vector
+-- at most three operands are stored in the op itself, more of them in a vector
 abbrev pub IsStored : Stored → Type 0
 IsStored (stored.Few count xs) = count ≤ 3
 IsStored (stored.More v) = 3 < length v.items

@@ -1,4 +1,5 @@
--- Which codes can be run: what an op names is there, and what it reads is what its act takes.
+-- Which codes can be run: the registers and units that an op names exist, and its operands are accepted by
+-- its act.
 use Rattle.std.specs.Prelude.{ℕ, Bool, true, false, not, ◌&&◌, ◌||◌, ◌==◌, ◌+◌, ◌∷◌, [], List, length, nat_lt, nat_le}
 use Rattle.std.specs.{Prelude.if◌then◌else◌, List.list_all, List.list_any}
 use Rattle.cs_base.specs.Rates.{is_init, is_control, is_audio, same_rate, within, res_rate}
@@ -14,12 +15,12 @@ use Rattle.cs_base.specs.declared.resource.Res.TheVariants as res
 use Rattle.cs_words.specs.declared.word.Func.TheVariants as func
 use Rattle.cs_ir.specs.declared.op.Act.TheVariants as act
 
--- whether a register is one of those that there are of its kind
+-- whether a register is within the number of registers of its kind
 abbrev pub has_register : Counts → Reg → Bool
 has_register counts q = nat_lt q.offset (at_kind counts.registers q.kind)
 
--- whether an act writes its op's register; of `Start`, of a store and of an opcode without a result it tells the rate
--- alone
+-- whether an act writes its op's register; for `Start`, a store and an opcode without a result, the register
+-- only determines the rate
 abbrev pub writes : Act → Bool
 writes (act.Save g) = false
 writes (act.Start opcode u) = false
@@ -35,7 +36,8 @@ writes act.Turnoff = false
 writes act.Ask = false
 writes _ = true
 
--- Of a code that ends at a place, what an act at a place names is there: a unit, or a later op or the end to go on at.
+-- Whether an act at `place`, in a code that ends at `end`, finds what it names: a unit that exists, or a
+-- later op or the end as its target.
 abbrev pub finds : Counts → ℕ → ℕ → Act → Bool
 finds counts end place (act.Start opcode u) = nat_lt u counts.units
 finds counts end place (act.Unit opcode u reach) = nat_lt u counts.units
@@ -43,60 +45,62 @@ finds counts end place (act.Jump to) = nat_lt place to && nat_le to end
 finds counts end place (act.Unless to) = nat_lt place to && nat_le to end
 finds counts end place _ = true
 
--- an operator takes and gives sounds where it computes, but a truth value is no sound
+-- whether an operator can be computed at a rate: arithmetic at every rate, truth values not at a-rate
 abbrev pub suits_operator : BinOp → Rate → Bool
 suits_operator b r = is_arithmetic b || not (is_audio r)
 
--- a function gives what changes as often as what it takes, but `i` reads once, and a pitch is no sound
+-- whether a function can have rate r if its operand has rate x: it changes as often as its operand; but `i`
+-- reads once, and a pitch isn't computed at a-rate
 abbrev pub suits_function : Func → Rate → Rate → Bool
 suits_function func.I r x = is_init r && is_control x
 suits_function func.Cpspch r x = within x r && not (is_audio r)
 suits_function _ r x = within x r
 
--- an opcode runs at a rate that its result may have; without a result at any
+-- whether an opcode can run at a rate: its result must allow it; an opcode without a result runs at any rate
 abbrev pub may_run_at : Row → Rate → Bool
 may_run_at row r = result_count row == 0 || list_any (same_rate r) row.results
 
--- the rate that bounds what an opcode takes: its own, or none where it has no result
+-- the highest rate of an opcode's arguments: its own rate, or no bound if it has no result
 abbrev pub bound_at : Row → Rate → Rate
 bound_at row r = if result_count row == 0 then rate.Audio else r
 
--- letters take what these registers hold, one each
+-- whether letters accept the values of these registers, one each
 abbrev pub take_all : List Letter → Rate → List Reg → Bool
 take_all [] bound [] = true
 take_all (l ∷ ls) bound (x ∷ xs) = takes l bound (rate_at x) && take_all ls bound xs
 take_all _ bound _ = false
 
--- what doesn't change after the note has begun
+-- whether a register doesn't change after the note has begun
 abbrev pub is_still : Reg → Bool
 is_still x = is_init (rate_at x)
 
--- a unit is started with settled values
+-- whether a unit can be started with these registers, which must be settled
 abbrev pub starts_with : Row → Rate → List Reg → Bool
 starts_with row r xs =
     is_unit row.shape && unit_takes row (length xs) && list_all is_still xs && may_run_at row r
 
--- a unit, and what reads or writes zak places, runs with values that move
+-- whether a unit, or an opcode on zak places, can run with these moving arguments
 abbrev pub runs_with : Row → Rate → List Reg → Bool
 runs_with row r xs = take_all (moving_letters row) (bound_at row r) xs && may_run_at row r
 
--- a table is stored to sample by sample where the store and all that it takes are sounds, or else at values that are
--- held
+-- whether a store's rate fits an operand: either both are a-rate, and the table is stored to frame by frame;
+-- or neither is
 abbrev pub as_sounds : Rate → Reg → Bool
 as_sounds r x = if is_audio r then is_audio (rate_at x) else not (is_audio (rate_at x))
 
--- a store takes a value, an index, and the number of a table, which doesn't change
+-- whether a store can take these registers: a value, an index, and the number of a table, which doesn't
+-- change
 abbrev pub stores_with : Rate → List Reg → Bool
 stores_with r (x ∷ y ∷ n ∷ []) = as_sounds r x && as_sounds r y && is_still n
 stores_with r _ = false
 
--- What an op may read and write whole: a variable, a zak place or a channel has one value or one sound a cycle. A table
--- has points of its own number, which units read and stores write.
+-- Whether an op may read and write a resource as one value. A variable, a zak place or a channel has one
+-- value or one signal per cycle. A table has many points, which units read and stores write.
 abbrev pub has_value : Res → Bool
 has_value (res.Table n) = false
 has_value _ = true
 
--- whether an act takes what these registers hold, where its op's register has the first rate
+-- whether an act accepts the values of these registers; r is the rate of its op's register
 abbrev pub takes_from : Act → Rate → List Reg → Bool
 takes_from (act.Const n) r [] = true
 takes_from (act.Field k) r [] = true
@@ -122,8 +126,8 @@ takes_from act.Turnoff r [] = true
 takes_from act.Ask r xs = nat_le 3 (length xs) && list_all is_still xs
 takes_from _ r xs = false
 
--- An op at a place of a code that ends at a place: it writes and reads registers that are there, finds what it names,
--- and takes what it reads.
+-- Whether an op at `place`, in a code that ends at `end`, is fine: the registers that it writes and reads
+-- exist, it finds what it names, and its act accepts its operands.
 abbrev pub is_fine : Counts → ℕ → ℕ → Op → Bool
 is_fine counts end place op =
     (not (writes op.act) || has_register counts op.into)
@@ -131,11 +135,11 @@ is_fine counts end place op =
     && finds counts end place op.act
     && takes_from op.act (rate_at op.into) op.from
 
--- the ops from a place on
+-- whether all ops from index `place` on are fine
 abbrev pub fine_from : Counts → ℕ → ℕ → List Op → Bool
 fine_from counts end place [] = true
 fine_from counts end place (op ∷ ops) = is_fine counts end place op && fine_from counts end (place + 1) ops
 
--- A code that can be run: each of its ops is fine at its place.
+-- Whether a code can be run: each of its ops is fine at its place.
 abbrev pub valid : Code → Bool
 valid c = fine_from c.counts (length c.ops) 0 c.ops

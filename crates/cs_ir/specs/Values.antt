@@ -1,4 +1,4 @@
--- What operators and functions make of numbers, in whole 65,536ths.
+-- The results of operators and functions on numbers, in 65,536ths.
 use Rattle.std.specs.Prelude.{ℕ, ℤ, pos, Bool, not, ◌&&◌, ◌||◌, ◌+◌, ◌*◌, ◌^◌, ◌%◌, ◌/◌, ◌*ℤ◌, ◌+ℤ◌, List, [], ◌∷◌}
 use Rattle.std.specs.Prelude.{slice_index_or, unsigned_abs, if◌then◌else◌, int_lt}
 use Rattle.std.specs.{Int.int_max, Int.int_min, Int.int_rem_euclid, Ordering.int_eq}
@@ -8,17 +8,19 @@ use Rattle.cs_words.specs.{declared.sign.BinOp.BinOp, declared.word.Func.Func}
 use Rattle.cs_words.specs.declared.sign.BinOp.TheVariants as op
 use Rattle.cs_words.specs.declared.word.Func.TheVariants as func
 
--- A condition is a value: 0 doesn't hold, anything else does. A comparison gives 1 or 0.
+-- A condition is a value: 0 doesn't hold, any other value does. A comparison returns 1 or 0.
 abbrev pub holds : ℤ → Bool
 holds z = not (int_eq z (pos 0))
 
+-- the number 1 for true, 0 for false
 abbrev pub truth : Bool → ℤ
 truth b = if b then one else pos 0
 
+-- the negative of a value, clamped
 abbrev pub negated : ℤ → ℤ
 negated z = difference_of (pos 0) z
 
--- what an operator makes of two values
+-- the result of an operator on two values
 abbrev pub combined : BinOp → ℤ → ℤ → ℤ
 combined op.Or x y = truth (holds x || holds y)
 combined op.And x y = truth (holds x && holds y)
@@ -34,25 +36,26 @@ combined op.Mul x y = product_of x y
 combined op.Div x y = quotient_of x y
 combined op.Rem x y = remainder_of x y
 
--- thousandths of a hertz of the twelve semitones from middle C upwards
+-- the frequencies of the twelve semitones from middle C upwards, in thousandths of a hertz
 abbrev pub semitones : List ℕ
 semitones =
     261626 ∷ 277183 ∷ 293665 ∷ 311127 ∷ 329628 ∷ 349228 ∷ 369994 ∷ 391995 ∷ 415305 ∷ 440000 ∷ 466164 ∷ 493883 ∷ []
 
--- the semitones of an octave and pitch class: the hundredths, rounded to a whole number
+-- the semitone of an octave and pitch class: its hundredths, rounded to an integer
 abbrev pub pitch_class : ℤ → ℕ
 pitch_class x = unsigned_abs (floor_div ((int_rem_euclid x one *ℤ pos 100) +ℤ pos 32768) one)
 
--- its octave, from 0 to 20; twelve of its semitones are one more
+-- its octave, clamped to 0 to 20; twelve or more semitones count as one octave more
 abbrev pub octave : ℤ → ℕ → ℕ
 octave x class = unsigned_abs (int_max (pos 0) (int_min (floor_div x one +ℤ pos (class / 12)) (pos 20)))
 
--- Hertz of an octave and pitch class, rounded down once: octave 8 begins at middle C, each further one doubles.
+-- The frequency in hertz of an octave and pitch class, rounded down once. Octave 8 begins at middle C, and
+-- each further octave doubles the frequency.
 abbrev pub cpspch_of : ℤ → ℤ
 cpspch_of x = floor_div (pos (slice_index_or semitones (pitch_class x % 12) 0 * 2 ^ (octave x (pitch_class x) + 8)))
     (pos 1000)
 
--- what a function makes of a value; `i` reads its variable as it is
+-- the result of a function of a value; `i` reads its variable unchanged
 abbrev pub applied : Func → ℤ → ℤ
 applied func.Int x = int_of x
 applied func.Frac x = frac_of x

@@ -1,12 +1,13 @@
--- What notes share and what opcodes do, as code and meaning see it.
+-- Shared resources and the effects of opcodes, as both codes and meanings see them.
 use Rattle.std.specs.Prelude.{ℕ, ℤ, Bool, List}
 use Rattle.cs_base.specs.{declared.resource.Rate.Rate, declared.resource.Res.Res}
 use Rattle.cs_words.specs.{declared.catalogue.Opcode.Opcode, declared.word.HeadName.HeadName}
 use Rattle.cs_ir.specs.{Waves.Wave, declared.op.Reach.Reach}
 
--- A world, by what a note can do in it. Its states W hold what notes share, the note's units, its output, whether it
--- was turned off, what it asked for, and whether its initialisation was refused. A unit has a number, the place in the
--- text of its opcode; what looks for a table, stores into one, or reads or writes zak places has none.
+-- A world: everything that a note can do in it. Its states W contain the shared resources, the note's units,
+-- its output, whether it was turned off, the notes that it has scheduled, and whether its initialisation was
+-- refused. A unit has a number, which is the place of its opcode in the text. An opcode that looks up a
+-- table, stores into one, or reads or writes zak places has no number.
 pub record World (W : Type 0) : Type 0 where
   pub ksmps : ℕ
   pub field : ℕ → ℤ

@@ -1,4 +1,4 @@
--- What private clauses alone cite.
+-- Definitions that only private clauses cite.
 pub mod Fine
 pub mod Naming
 pub mod Reaching

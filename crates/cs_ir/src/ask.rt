@@ -1,25 +1,25 @@
-// What a note may ask for: another note.
+// The note that a note schedules.
 ghost use Rattle.std.specs.Prelude.{◌≡◌, IfOk};
 ghost use Rattle.cs_ir.specs.Asks.{ask_of, value_at};
 
 use cs_base::{GREATEST_FIELD, Num, Nums, OutOfMemory};
 use std::alloc::Global;
 
-/// A note that a note asks for as it begins.
+/// A note that another note schedules as it begins.
 #[derive(Drop)]
 pub struct Ask {
     /// The number of its instrument.
     pub number: i64,
-    /// Seconds from now until it begins.
+    /// The time from now until it begins, in seconds.
     pub when: Num,
-    /// Seconds that it lasts.
+    /// Its duration in seconds.
     pub dur: Num,
-    /// Its p-fields from p4 on, up to p100: no text reads a later one.
+    /// Its p-fields from p4 on, up to p100. No text reads a later one.
     pub more: Nums,
 }
 
 impl Ask {
-    /// What these values ask for; one that is missing counts as 0.
+    /// The note that these values describe. A missing value counts as 0.
     pub fn of(alloc: Global, values: &[Num]) -> Result<Ask, OutOfMemory>
         ensures { IfOk result (λ a. a ≡ ask_of values.now) }
     {

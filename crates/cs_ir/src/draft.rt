@@ -1,4 +1,4 @@
-// Codes that are being made.
+// Drafts: codes that are being built.
 ghost use Rattle.std.specs.Prelude.{◌≡◌, ◌++◌, ℕ, ◌∷◌, [], length, true, IfOk, IfSome, IsNone, OnOk};
 ghost use Rattle.cs_ir.specs.{Codes.is_unaimed, inner.Steps.aim_step, inner.Steps.aimed_step};
 ghost use Rattle.cs_ir.specs.Drafts.{Aimed, Grew, IsAt, drafted, library_of};
@@ -10,8 +10,8 @@ use cs_base::OutOfMemory;
 use std::alloc::Global;
 use std::marker::Model;
 
-/// A code that is being made, behind routines that it may invoke. Contracts see the steps of both, and speak of the
-/// ops that these stand for (`drafted`).
+/// A code that is being built, and the routines that it may invoke. Contracts see the steps of both, and
+/// speak of the ops that they expand to (`drafted`).
 #[derive(Drop)]
 pub struct CodeDraft<'r> {
     routines: &'r [Routine],
@@ -30,7 +30,7 @@ impl<'r> Model for CodeDraft<'r> {
         × (are_within (length d.steps.items) d.steps.items ≡ true) };
 }
 
-/// An op of a draft. Contracts see the number of its step.
+/// A mark: identifies an op of a draft. Contracts see the index of its step.
 #[derive(Clone, Copy)]
 pub struct Mark {
     step: usize,
@@ -47,7 +47,7 @@ impl Model for Mark {
 }
 
 impl<'r> CodeDraft<'r> {
-    /// A code without ops.
+    /// A draft without ops.
     pub fn new(alloc: Global, routines: &'r [Routine]) -> CodeDraft<'r>
         requires { AreRoutines routines.now }
         ensures ops { drafted result ≡ [] }
@@ -59,7 +59,7 @@ impl<'r> CodeDraft<'r> {
         }
     }
 
-    /// Appends an op. A jump's place is 0 until it is aimed, by its mark.
+    /// Appends an op. A jump's target is 0 until `aim` sets it by the returned mark.
     pub fn push(&mut self, op: Op) -> Result<Mark, OutOfMemory>
         requires { is_unaimed op.act ≡ true }
         ensures more { IfOk result (λ _. Grew self.old self.new (op ∷ [])) }
@@ -90,7 +90,7 @@ impl<'r> CodeDraft<'r> {
         Ok(())
     }
 
-    /// Lets a jump go to the end of what is drafted.
+    /// Sets the target of a marked jump to the end of the draft.
     pub fn aim(&mut self, mark: Mark)
         ensures { (place : ℕ) → IsAt self.old mark place → Aimed self.old self.new place }
     {
@@ -98,7 +98,7 @@ impl<'r> CodeDraft<'r> {
         aim_step(&mut self.steps, mark.step, end);
     }
 
-    /// The code that was drafted.
+    /// Finishes the draft and returns its code.
     pub fn end(self) -> Result<Routine, OutOfMemory>
         ensures ops { IfOk result (λ r. ops_in (library_of self.entry) r ≡ drafted self.entry) }
         ensures is { IfOk result (λ r. IsRoutineOf (library_of self.entry) r) }
@@ -107,8 +107,9 @@ impl<'r> CodeDraft<'r> {
     }
 }
 
-/// What is invoked in place of a call: nothing where its routine has no steps; and where that calls another routine and
-/// does nothing else, the other one. So routines nest no deeper than ops and calls stand beside one another.
+// The call that is performed instead of `call`. It is `None` if the routine has no steps. If the routine
+// only calls another routine, it is a call of that one. So routines never nest deeper than the ops and calls
+// in their texts.
 fn called(routines: &[Routine], call: Call) -> Result<Option<Call>, OutOfMemory>
     ensures some { IfOk result (λ found. IfSome found (λ c. (place : ℕ)
         → moved_ops (window_of c) place (ops_at (library_in routines.now) c.routine)

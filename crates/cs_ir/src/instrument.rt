@@ -1,4 +1,4 @@
-// Instruments, by their numbers.
+// Instruments and their numbers.
 ghost use Rattle.std.specs.{Prelude.◌≡◌, Prelude.true, Prelude.length, Prelude.IfOk, Prelude.eqb, List.IsDistinct};
 ghost use Rattle.std.specs.List.Sorted.{IsPermutation, IsStrictlyIncreasing};
 ghost use Rattle.cs_ir.specs.{Instruments.numbers_of, Validity.fine_from, Validity.valid};
@@ -9,8 +9,8 @@ use std::alloc::Global;
 use std::marker::Model;
 use std::sync::Arc;
 
-/// What the notes of an instrument run: one code as they begin, another in each control cycle, over the same registers
-/// and units.
+/// The two codes of an instrument: one runs as a note begins, the other in each control cycle, over the same
+/// registers and units.
 #[derive(Drop)]
 pub struct Body {
     init: ValidCode,
@@ -19,7 +19,7 @@ pub struct Body {
 }
 
 impl Body {
-    /// Codes of these ops, which are known to be valid.
+    /// The body with these ops, which are known to be valid.
     pub fn new(init: Ops, perf: Ops, counts: Counts) -> Body
         requires init { fine_from counts (length init) 0 init ≡ true }
         requires perf { fine_from counts (length perf) 0 perf ≡ true }
@@ -65,13 +65,14 @@ impl Instrument {
         })
     }
 
+    /// The instrument's number.
     pub fn number(&self) -> u32
         ensures { result ≡ self.now.number }
     {
         self.number
     }
 
-    /// What a note runs as it begins.
+    /// The code that a note runs as it begins.
     pub fn init(&self) -> &Code
         ensures same { result.now ≡ self.now.init }
         ensures valid { valid result.now ≡ true }
@@ -80,7 +81,7 @@ impl Instrument {
         &self.body.init.code
     }
 
-    /// What a note runs in each control cycle.
+    /// The code that a note runs in each control cycle.
     pub fn perf(&self) -> &Code
         ensures same { result.now ≡ self.now.perf }
         ensures valid { valid result.now ≡ true }
@@ -90,7 +91,7 @@ impl Instrument {
     }
 }
 
-/// The instruments of an orchestra, by ascending number.
+/// The instruments of an orchestra, in ascending order of their numbers.
 #[derive(Drop)]
 pub struct Instruments {
     items: Vec<Instrument>,
@@ -108,7 +109,7 @@ impl Model for Instruments {
 }
 
 impl Instruments {
-    /// Instruments in any order, no two of one number, brought into the order of their numbers.
+    /// Sorts instruments by number. No two of them have the same number.
     pub fn of(mut items: Vec<Instrument>) -> Instruments
         requires { IsDistinct eqb (numbers_of items.items) }
         ensures same { IsPermutation items.items result }
@@ -118,7 +119,7 @@ impl Instruments {
         Instruments { items }
     }
 
-    /// All of them, by ascending number.
+    /// All instruments, in ascending order of their numbers.
     pub fn as_slice(&self) -> &[Instrument]
         ensures same { result.now ≡ self.now }
         ensures ascending { IsStrictlyIncreasing (numbers_of self.now) }

@@ -1,11 +1,11 @@
-// What holds of code: calls that do nothing, whose contracts are the laws.
+// Facts about code. These functions do nothing; their contracts state the facts.
 ghost use Rattle.std.specs.Prelude.{◌≡◌, ℕ, ℤ, pos, negsuc, [], ◌∷◌, length, true, map, slice_get, Some, neg_ℤ};
 ghost use Rattle.cs_base.specs.Numbers.{one};
 ghost use Rattle.cs_ir.specs.{Asks.ask_of, Validity.is_fine, Validity.valid, declared.op.Code.Code, declared.op.Op.Op};
 ghost use Rattle.cs_ir.specs.Values.{combined, cpspch_of};
 ghost use Rattle.cs_words.specs.declared.sign.BinOp.TheVariants as op;
 
-/// A code is valid exactly where each of its ops is fine at its place.
+/// A code is valid if and only if each of its ops is fine at its place.
 pub fn valid_code_is_fine()
     ensures each { (c : Code) (n : ℕ) (o : Op)
         → valid c ≡ true → slice_get c.ops n ≡ Some o → is_fine c.counts (length c.ops) n o ≡ true }
@@ -14,9 +14,9 @@ pub fn valid_code_is_fine()
         → valid c ≡ true }
 {}
 
-/// What operators and functions make of numbers, and what is asked for, computed by the definitions.
+/// Worked examples by the definitions: results of operators and functions, and scheduled notes.
 pub fn worked_examples()
-    // of 8.09, 8.00, 9.00, 8.12, 7.11 and -5
+    // the pitches 8.09, 8.00, 9.00, 8.12, 7.11 and -5
     ensures pitches { map cpspch_of
         (pos 530186 ∷ pos 524288 ∷ pos 589824 ∷ pos 532152 ∷ pos 465960 ∷ negsuc 327679 ∷ [])
         ≡ pos 28835840 ∷ pos 17145921 ∷ pos 34291843 ∷ pos 34291843 ∷ pos 16183558 ∷ pos 66976 ∷ [] }

@@ -1,16 +1,16 @@
-//! The flat code of a note: registers, ops, and what a code does in a world.
+//! The flat code of a note: registers, ops, and the effect of a code in a world.
 //!
-//! Its one contract: a `ValidCode` is a code that can be run (specs/Validity.antt), and all that runs a code may rely
-//! on it. `Code::check` takes exactly these and hands back any other; `Body::new` takes codes that are proved to be
-//! valid. What a code does is the fold over its ops in specs/Machine.antt, in any world (specs/Worlds.antt); which of
-//! what notes share it may touch is specs/Resources.antt. How operands, what ops touch and instruments are kept may be
-//! changed without anyone above noticing.
+//! Its one contract: a `ValidCode` is a code that can be run (specs/Validity.antt), and everything that runs
+//! a code may rely on it. `Code::check` accepts exactly these codes and returns any other; `Body::new` takes
+//! codes that are proved to be valid. The effect of a code is the fold over its ops in specs/Machine.antt, in
+//! any world (specs/Worlds.antt). The shared resources that it may touch are in specs/Resources.antt. The
+//! representation of operands, touches and instruments may be changed without anyone above noticing.
 //!
-//! To be read in this order: `register`, `operands`, `op` (what code is made of), `step` (ops and calls of routines),
-//! `window` (where a routine's registers and units begin), `touches` (tables and zak places by number, and what ops
-//! touch of what notes share), `routine` (steps that are made once, and a code as a whole), `draft` (how a code is
-//! made), `validity` (which code can be run), `instrument` (codes under numbers), `ask` (a note that a note asks for),
-//! `value` (operators and functions), `laws`.
+//! In reading order: `register`, `operands`, `op` (the parts of a code), `step` (ops and calls of routines),
+//! `window` (where a routine's registers and units begin), `touches` (tables and zak places by number, and
+//! the shared resources that ops touch), `routine` (steps that are compiled once, and the ops of a code),
+//! `draft` (building a code), `validity` (which code can be run), `instrument` (codes under numbers), `ask`
+//! (a note that a note schedules), `value` (operators and functions), `laws`.
 #![tactic(auto)]
 
 mod ask;

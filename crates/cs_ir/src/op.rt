@@ -1,69 +1,69 @@
-// Ops: what a note's code does, one after another.
+// Ops: the instructions of a note's code, which are performed one after another.
 use crate::{Counts, Operands, Ops, Reg};
 use cs_base::{Num, Res};
 use cs_words::{BinOp, Func, HeadName, Opcode};
 
-/// Which tables, or which places of a zak space, an op may touch, by their numbers.
+/// The tables, or the places of a zak space, that an op may touch, by their numbers.
 #[derive(Clone, Copy)]
 pub enum Reach {
     Nothing,
-    /// From the first to the last, both of them too.
+    /// From the first number to the last, both included.
     Span(u32, u32),
     Any,
 }
 
-/// What an op does with its operands.
+/// The action of an op on its operands.
 #[derive(Clone, Copy)]
 pub enum Act {
-    /// Gives a number.
+    /// Yields a constant.
     Const(Num),
-    /// Gives a p-field.
+    /// Yields a p-field.
     Field(u32),
-    /// Gives what the header says.
+    /// Yields a value of the header.
     Head(HeadName),
-    /// Gives its operand.
+    /// Yields its operand.
     Copy,
-    /// Gives its operand's negative.
+    /// Yields the negative of its operand.
     Neg,
-    /// Gives what an operator makes of its two operands.
+    /// Yields the result of an operator on its two operands.
     Pair(BinOp),
-    /// Gives the second operand where the first holds, else the third.
+    /// Yields the second operand if the first one holds, otherwise the third.
     Pick,
-    /// Gives what a function makes of its operand.
+    /// Yields the result of a function of its operand.
     Call(Func),
-    /// Reads what notes share.
+    /// Reads a shared resource.
     Load(Res),
-    /// Writes its operand to what notes share.
+    /// Writes its operand to a shared resource.
     Save(Res),
-    /// Starts the unit of this number, with the operands as its values that are known when the note begins.
+    /// Starts the unit with this number. The operands are the values of its i-rate arguments.
     Start(Opcode, u32),
-    /// Runs the unit of this number over a cycle.
+    /// Runs the unit with this number over a cycle.
     Unit(Opcode, u32, Reach),
-    /// Refuses the note where there is no table of the number that its operand has when the note begins.
+    /// Refuses the note if no table has the number that its operand has when the note begins.
     Seek,
-    /// Stores its first operand at the index that its second one gives into the table whose number its third one has.
+    /// Stores its first operand into a table. The second operand is the index, the third the table's number.
     Store(Reach),
     /// Reads, writes, mixes or clears zak places.
     Zak(Opcode, Reach),
-    /// Goes on at a later op.
+    /// Continues at a later op.
     Jump(usize),
-    /// Goes on at a later op where its operand doesn't hold.
+    /// Continues at a later op if its operand doesn't hold.
     Unless(usize),
     /// Adds its operand to an output channel, counted from 0.
     Out(usize),
-    /// Adds its second operand to the channel that its first one names, counted from 1.
+    /// Adds its second operand to the channel whose number is the first operand, counted from 1.
     OutAt,
-    /// Ends the note with this cycle.
+    /// Ends the note after this cycle.
     Turnoff,
-    /// Asks for a note, by its instrument, when it begins, its length, and further p-fields.
+    /// Schedules a note. The operands are its instrument, its start, its length, and further p-fields.
     Ask,
 }
 
-// Codes may be long, so the size of an op is looked at: a whole cache line.
+// Codes may be long, so the size of an op matters: it is one cache line.
 const _: () = prove!(size_of::<Op>() == 64);
 
-/// An op. `into` is the register that it writes, where its act writes one; of a unit and of a store it tells the rate
-/// too.
+/// An op. `into` is the register that it writes, if its act writes one. For a unit and a store, its kind also
+/// determines the rate.
 #[derive(Drop)]
 pub struct Op {
     pub act: Act,
@@ -71,7 +71,7 @@ pub struct Op {
     pub from: Operands,
 }
 
-/// A code: ops in order, and how many registers and units they may name.
+/// A code: ops in order, and the numbers of registers and units that they may use.
 #[derive(Drop)]
 pub struct Code {
     pub ops: Ops,

@@ -4,8 +4,8 @@ ghost use Rattle.std.specs.Prelude.{◌≡◌, ◌≤◌, [], ◌∷◌, length,
 use crate::{Kind, Reg};
 use std::marker::Model;
 
-/// Up to three registers stand in the op itself, more of them in a vector: what most ops read is found without
-/// following a pointer.
+// Up to three registers are stored in the op itself, more of them in a vector. So the operands of most ops
+// are found without following a pointer.
 #[derive(Drop)]
 enum Stored {
     Few(u32, [Reg; FEW]),
@@ -14,13 +14,13 @@ enum Stored {
 
 const FEW: usize = 3;
 
-/// What stands behind the last of few registers.
+// The filler after the last of fewer than three registers.
 const UNREAD: Reg = Reg {
     kind: Kind::TemporaryInit,
     offset: 0,
 };
 
-/// The registers that an op reads, in order. Contracts see the list of them.
+/// The registers that an op reads, in order. Contracts see the list of registers.
 #[derive(Drop)]
 pub struct Operands {
     stored: Stored,
@@ -38,6 +38,7 @@ impl Model for Operands {
 }
 
 impl Operands {
+    /// No registers.
     pub fn none() -> Operands
         ensures { result ≡ [] }
     {
@@ -53,25 +54,28 @@ impl Operands {
         }
     }
 
+    /// One register.
     pub fn one(x: Reg) -> Operands
         ensures { result ≡ x ∷ [] }
     {
         Operands::few(1, [x, UNREAD, UNREAD])
     }
 
+    /// Two registers, in order.
     pub fn two(x: Reg, y: Reg) -> Operands
         ensures { result ≡ x ∷ y ∷ [] }
     {
         Operands::few(2, [x, y, UNREAD])
     }
 
+    /// Three registers, in order.
     pub fn three(x: Reg, y: Reg, z: Reg) -> Operands
         ensures { result ≡ x ∷ y ∷ z ∷ [] }
     {
         Operands::few(3, [x, y, z])
     }
 
-    /// The registers of a vector, which is kept where there are more than three of them.
+    /// The registers of a vector. The vector is kept if it has more than three of them.
     pub fn from_vec(registers: Vec<Reg>) -> Operands
         ensures { result ≡ registers.items }
     {
@@ -87,6 +91,7 @@ impl Operands {
     }
 
     #[inline(always)]
+    /// All registers, in order.
     pub fn as_slice(&self) -> &[Reg]
         ensures { result.now ≡ self.now }
     {
@@ -96,7 +101,7 @@ impl Operands {
         }
     }
 
-    /// Where registers stand that are three at most, from the first on.
+    /// The array of the registers, if there are at most three.
     #[inline(always)]
     pub(crate) fn first(&self) -> &[Reg; FEW]
         requires { length self.now ≤ 3 }

@@ -1,4 +1,4 @@
-// Registers: where a note keeps the values that its code works on.
+// Registers: the variables and intermediate values of a note's code.
 ghost use Rattle.std.specs.Prelude.{◌≡◌, ◌≤◌, ◌^◌, max, OnOk, if◌then◌else◌};
 ghost use Rattle.cs_base.specs.Rates.{is_audio};
 ghost use Rattle.cs_ir.specs.Registers.{at_kind, local, rate_at, rate_of, same_kind, temporary};
@@ -6,8 +6,8 @@ ghost use Rattle.cs_ir.specs.{declared.register.Kind.Kind, inner.Reaching.behind
 
 use cs_base::{OutOfMemory, Rate};
 
-/// What a register holds, and how often that changes: a local variable, a value that was worked out as the note began
-/// and is kept, or a temporary, on the way to another value.
+/// The purpose of a register and its rate: a local variable, a value that is computed as the note begins and
+/// then kept, or a temporary for an intermediate result.
 #[derive(Clone, Copy)]
 pub enum Kind {
     LocalInit,
@@ -19,13 +19,14 @@ pub enum Kind {
     TemporaryAudio,
 }
 
-/// How many kinds there are, and how many of them aren't of rate Audio: the first ones.
+/// The number of kinds. The first `HELD_KINDS` of them aren't a-rate.
 pub const KINDS: usize = 7;
 
+/// The number of kinds whose registers hold one value per cycle.
 pub const HELD_KINDS: usize = 5;
 
 impl Kind {
-    /// That of a local variable of a rate.
+    /// The kind of a local variable of this rate.
     pub fn local(rate: Rate) -> Kind
         ensures { result ≡ local rate }
     {
@@ -36,7 +37,7 @@ impl Kind {
         }
     }
 
-    /// That of a temporary of a rate.
+    /// The kind of a temporary of this rate.
     pub fn temporary(rate: Rate) -> Kind
         ensures { result ≡ temporary rate }
     {
@@ -47,7 +48,7 @@ impl Kind {
         }
     }
 
-    /// Whether it holds a value for each frame of the cycle; any other holds one value.
+    /// Whether registers of this kind hold a value for each frame of the cycle. All others hold one value.
     #[inline(always)]
     pub fn is_audio(self) -> bool
         ensures { result ≡ is_audio (rate_of self) }
@@ -56,7 +57,7 @@ impl Kind {
     }
 }
 
-/// A register: its kind, and its number among those of its kind.
+/// A register: its kind, and its number within its kind.
 #[derive(Clone, Copy)]
 pub struct Reg {
     pub kind: Kind,
@@ -64,7 +65,7 @@ pub struct Reg {
 }
 
 impl Reg {
-    /// How often what it holds changes.
+    /// The rate at which the register's value changes.
     #[inline(always)]
     pub fn rate(self) -> Rate
         ensures { result ≡ rate_at self }
@@ -76,7 +77,7 @@ impl Reg {
         }
     }
 
-    /// Whether it holds a value for each frame of the cycle.
+    /// Whether the register holds a value for each frame of the cycle.
     #[inline(always)]
     pub fn is_audio(self) -> bool
         ensures { result ≡ is_audio (rate_at self) }
@@ -85,31 +86,32 @@ impl Reg {
     }
 }
 
-/// How many registers of each kind there are: of each fewer than 2^32.
+/// The number of registers of each kind, below 2^32 each.
 #[derive(Clone, Copy)]
 pub struct RegisterCounts {
     counts: [u32; KINDS],
 }
 
-/// How many registers of each kind a code has, and how many units.
+/// The number of registers of each kind that a code has, and its number of units.
 #[derive(Clone, Copy)]
 pub struct Counts {
     pub registers: RegisterCounts,
     pub units: usize,
 }
 
+/// No registers of any kind.
 pub const NO_REGISTERS: RegisterCounts = RegisterCounts { counts: [0; KINDS] };
 
 impl RegisterCounts {
-    /// How many registers of a kind there are.
+    /// The number of registers of a kind.
     pub fn of(&self, kind: Kind) -> usize
         ensures { result ≡ at_kind self.now kind }
     {
         self.counts[kind as usize] as usize
     }
 
-    /// At least the registers of a kind from `begin` on, `count` of them; none where that is 0. An end that has no 32
-    /// bits is reported as out of memory, since registers up to there would take 32 GB.
+    /// Raises the number of registers of a kind to at least `begin` + `count`, if `count` isn't 0. A sum of
+    /// more than 32 bits is reported as out of memory, since 2^32 registers would need 32 GB.
     pub(crate) fn raise(&mut self, kind: Kind, begin: u32, count: usize) -> Result<(), OutOfMemory>
         requires { count ≤ 2 ^ 32 }
         ensures { OnOk result ((k : Kind) → at_kind self.new k ≡ if same_kind k kind
@@ -127,7 +129,7 @@ impl RegisterCounts {
         Ok(())
     }
 
-    /// As many of each as the greater one of two has.
+    /// The greater count of two, for each kind.
     pub fn greatest(&self, other: &RegisterCounts) -> RegisterCounts
         ensures { (k : Kind) → at_kind result k ≡ max (at_kind self.now k) (at_kind other.now k) }
     {

@@ -1,4 +1,5 @@
-// Routines: steps that codes and later routines invoke, with what they reach and touch; and the ops of a code.
+// Routines: steps that codes and later routines invoke, with the resources that they touch; and the ops of a
+// code.
 ghost use Rattle.std.specs.Prelude.{◌≡◌, ◌≤◌, ◌^◌, length, max, IfOk, OnOk};
 ghost use Rattle.cs_ir.specs.Flat.{begin_of, flat, window_of};
 ghost use Rattle.cs_ir.specs.{Limits.ops_limit, Resources.NameTheSame, Resources.Stock, Resources.ops_use};
@@ -14,17 +15,18 @@ use std::alloc::Global;
 use std::marker::Model;
 use std::sync::Arc;
 
-/// The steps of a routine. They invoke earlier routines alone.
+/// The steps of a routine. They invoke only earlier routines.
 #[derive(Drop)]
 pub struct Routine {
     steps: Vec<Step>,
-    /// Where the registers end that its ops name, and what these touch; those of routines that it invokes too.
+    /// One more than the greatest register number of each kind, and the resources touched. Both include the
+    /// routines that it invokes.
     limits: RegisterCounts,
     pub(crate) touches: Touches,
 }
 
 impl Routine {
-    /// The routine of some steps behind others.
+    /// The routine of these steps, which may invoke the routines before it.
     pub(crate) fn of(routines: &[Routine], mut steps: Vec<Step>) -> Result<Routine, OutOfMemory>
         requires { AreRoutines routines.now }
         ensures steps { IfOk result (λ r. steps_of r ≡ steps.items) }
@@ -40,6 +42,7 @@ impl Routine {
         })
     }
 
+    /// The steps of the routine.
     pub fn steps(&self) -> &[Step]
         ensures { result.now ≡ steps_of self.now }
     {
@@ -113,8 +116,8 @@ fn add_reached(
     limits.raise(Kind::TemporaryAudio, 0, inner.of(Kind::TemporaryAudio))
 }
 
-/// The ops of a code: its steps, and the routines that they invoke, which codes share. Contracts see the flat list of
-/// ops.
+/// The ops of a code: its steps, and the routines that they invoke, which codes share. Contracts see the flat
+/// list of ops.
 #[derive(Drop)]
 pub struct Ops {
     routines: Arc<Vec<Routine>, Global>,
@@ -136,7 +139,7 @@ impl Model for Ops {
 }
 
 impl Ops {
-    /// The ops of steps that invoke these routines.
+    /// The ops of these steps, which invoke these routines.
     pub fn new(routines: Arc<Vec<Routine>, Global>, body: Routine) -> Ops
         requires routines { AreRoutines routines.value.items }
         requires few { length routines.value.items ≤ 2 ^ 31 }
@@ -146,7 +149,7 @@ impl Ops {
         Ops { routines, body }
     }
 
-    /// The routines that the steps invoke, and the steps.
+    /// Returns the routines that the steps invoke, and the steps.
     #[inline(always)]
     pub fn parts(&self) -> (&[Routine], &[Step])
         ensures ops { flat (library_in result.0.now) result.1.now ≡ self.now }
@@ -155,14 +158,14 @@ impl Ops {
         (&self.routines, self.body.steps())
     }
 
-    /// Where the registers end that the ops name.
+    /// One more than the greatest register number that the ops use, for each kind.
     pub fn limits(&self) -> RegisterCounts
         ensures { (k : Kind) → at_kind result k ≡ ops_limit k self.now }
     {
         self.body.limits
     }
 
-    /// What the ops touch of what notes share. It is at hand at once.
+    /// The shared resources that the ops touch. It takes constant time.
     pub fn touches(&self) -> &Touches
         ensures used { (stock : Stock) → NameTheSame (named stock result.now.used.items) (ops_use stock self.now) }
         ensures written { (stock : Stock) → NameTheSame (named stock result.now.written.items)

@@ -1,12 +1,12 @@
-// Steps: what a code consists of, ops and calls of routines.
+// Steps: the parts of a code, either ops or calls of routines.
 ghost use Rattle.std.specs.Prelude.{◌≡◌, IfSome};
 ghost use Rattle.cs_ir.specs.Flat.{further, window_of};
 
 use crate::Op;
 use cs_base::PerRate;
 
-/// A call of a routine: its number, and where its local variables of each rate, its kept values and its units begin
-/// behind those of what invokes it.
+/// A call of a routine: its number, and where its local variables of each rate, its kept values and its units
+/// begin, relative to the caller's.
 #[derive(Clone, Copy)]
 pub struct Call {
     pub routine: u32,
@@ -15,7 +15,7 @@ pub struct Call {
     pub unit: u32,
 }
 
-/// What is done next: an op, of which a jump goes to a later step of the same list; or the steps of a routine.
+/// The next action: an op, whose jump goes to a later step of the same list; or the steps of a routine.
 #[derive(Drop)]
 pub enum Step {
     Do(Op),
@@ -23,7 +23,8 @@ pub enum Step {
 }
 
 impl Call {
-    /// A call of what its routine calls: the two at once.
+    /// The combination of two calls: `call` is made by the routine that this call invokes. `None` if a sum
+    /// has more than 32 bits.
     pub fn further(&self, call: &Call) -> Option<Call>
         ensures window { IfSome result (λ c. window_of c ≡ further (window_of self.now) (window_of call.now)) }
         ensures routine { IfSome result (λ c. c.routine ≡ call.now.routine) }

@@ -1,4 +1,5 @@
-// Tables and zak places by their numbers, and what ops touch of what notes share, whatever a piece has of it.
+// Tables and zak places by their numbers, and the shared resources that ops touch, whichever of them a piece
+// has.
 ghost use Rattle.std.specs.Prelude.{ℕ, ◌≡◌, ◌↔◌, [], IfOk, if◌then◌else◌};
 ghost use Rattle.std.specs.List.{Contains};
 ghost use Rattle.cs_ir.specs.{Routines.AreRoutines, Routines.library_in, Touched.covers, declared.touches.Touch.Touch};
@@ -11,7 +12,7 @@ use cs_base::{OutOfMemory, Res, Spaces};
 use cs_words::{Shape, Space, signature_of};
 use std::alloc::Global;
 
-/// What an op touches of what notes share.
+/// A shared resource, or a set of them, that an op touches.
 #[derive(Clone, Copy)]
 pub enum Touch {
     One(Res),
@@ -21,7 +22,7 @@ pub enum Touch {
     Places(Space, Reach),
 }
 
-/// What ops may read or write, and what they may write, each once.
+/// The resources that ops may read or write, and the resources that they may write, each listed once.
 #[derive(Drop)]
 pub struct Touches {
     pub used: Vec<Touch>,
@@ -29,7 +30,7 @@ pub struct Touches {
 }
 
 impl Reach {
-    /// Whether a number lies within it.
+    /// Whether a number is within the reach.
     pub fn contains(self, number: usize) -> bool
         ensures { result ≡ reaches self number }
     {
@@ -51,7 +52,7 @@ pub fn zak_place(space: Space, number: usize) -> Res
     }
 }
 
-/// How many places a zak space has.
+/// The number of places of a zak space.
 pub fn places_of(spaces: Spaces, space: Space) -> u32
     ensures { result ≡ places_of spaces space }
 {
@@ -61,14 +62,14 @@ pub fn places_of(spaces: Spaces, space: Space) -> u32
     }
 }
 
-/// What is asked of what may be touched: what is read or written, or what is written alone.
+// The question about touched resources: those that are read or written, or only those that are written.
 #[derive(Clone, Copy)]
 enum Access {
     Use,
     Write,
 }
 
-/// What steps touch: their own ops, and the routines that they invoke.
+/// The resources that steps touch, directly or through the routines that they invoke.
 pub(crate) fn touches_of(
     alloc: Global,
     routines: &[Routine],
@@ -102,7 +103,7 @@ fn invoked_by(alloc: Global, steps: &[Step]) -> Result<Vec<u32>, OutOfMemory>
     Ok(numbers)
 }
 
-/// What steps touch that invoke routines of these numbers.
+// The resources that steps touch, if they invoke the routines with these numbers.
 fn touched(
     alloc: Global,
     access: Access,
@@ -136,7 +137,7 @@ fn touched(
 }
 
 impl Touch {
-    /// Whether a resource of a piece with these zak spaces is touched.
+    /// Whether this touch includes a resource, in a piece with these zak spaces.
     pub fn covers(self, spaces: Spaces, res: Res) -> bool
         ensures { result ≡ covers spaces self res }
     {
@@ -153,7 +154,7 @@ impl Touch {
         }
     }
 
-    /// Numbers by which two are told apart.
+    // A key that distinguishes any two touches.
     fn key(&self) -> (u8, u8, usize, usize)
         ensures { result ≡ key_of self.now }
     {

@@ -12,7 +12,8 @@ use crate::{Act, Call, Code, Counts, Op, Reg, Routine, Step, Window};
 use cs_base::{Rate, Res};
 use cs_words::{Func, Letter, Shape, Signature, signature_of};
 
-/// A code that can be run: each op finds the registers, units and places that it names, and reads what its act takes.
+/// A code that can be run: each op finds the registers, units and places that it names, and reads operands
+/// that its act accepts.
 #[derive(Drop)]
 pub struct ValidCode {
     pub code: Code,
@@ -20,7 +21,7 @@ pub struct ValidCode {
 }
 
 impl Code {
-    /// The code as one that can be run; handed back where it can't be.
+    /// Checks that the code can be run. Returns the code itself if it can't.
     pub fn check(self) -> Result<ValidCode, Code>
         ensures ok { IfOk result (λ v. v.code ≡ self) }
         ensures valid { IfOk result (λ v. valid self ≡ true) }
@@ -36,7 +37,7 @@ impl Code {
     }
 }
 
-/// Whether each op that steps stand for in a window is fine, wherever they stand in a code.
+// Whether all ops of these steps in a window are fine, at any place of a code.
 #[cycle(fine)]
 fn are_fine(routines: &[Routine], steps: &[Step], window: &Window, counts: &Counts) -> bool
     requires { IsLow (length routines.now) window.now }
@@ -75,7 +76,7 @@ fn is_call_fine(routines: &[Routine], call: &Call, window: &Window, counts: &Cou
     }
 }
 
-/// Whether an op of a routine is fine in a window, as a step that stands at a place among its routine's steps.
+// Whether an op of a routine is fine in a window. `at` is its place among its routine's steps.
 fn is_fine(op: &Op, at: usize, window: &Window, counts: &Counts) -> bool
     requires { leaves_room window.now ≡ true }
     ensures { result ≡ suits counts.now window.now at op.now }
@@ -104,7 +105,7 @@ impl Counts {
         registers.iter().all(|register| self.has(window, *register))
     }
 
-    /// Whether the unit of an act is there, and a jump goes to a later step; one past the last goes to the end.
+    // Whether the unit of an act exists, and a jump goes to a later step or to the end.
     fn finds(&self, window: &Window, at: usize, act: Act) -> bool
         requires { leaves_room window.now ≡ true }
         ensures { result ≡ finds_step self.now window.now at act }
@@ -180,7 +181,8 @@ impl Act {
     }
 }
 
-/// Whether a code's op may read or write it whole: units alone read and store the points of a table.
+// Whether an op may read or write the resource as one value. The points of a table are read only by units
+// and written only by stores.
 fn has_value(res: Res) -> bool
     ensures { result ≡ has_value res }
 {

@@ -1,4 +1,4 @@
-// What operators and functions make of numbers.
+// The results of operators and functions on numbers.
 ghost use Rattle.std.specs.Prelude.{◌≡◌, ◌≤◌, ◌%◌, slice_index_or};
 ghost use Rattle.cs_ir.specs.Values.{applied, combined, cpspch_of, holds, negated, octave, pitch_class, semitones};
 ghost use Rattle.cs_ir.specs.Values.{truth};
@@ -6,27 +6,27 @@ ghost use Rattle.cs_ir.specs.Values.{truth};
 use cs_base::{Num, ONE};
 use cs_words::{BinOp, Func};
 
-/// Thousandths of a hertz of the twelve semitones from middle C upwards.
+// The frequencies of the twelve semitones from middle C upwards, in thousandths of a hertz.
 const SEMITONES: [u64; 12] = [
     261_626, 277_183, 293_665, 311_127, 329_628, 349_228, 369_994, 391_995, 415_305, 440_000,
     466_164, 493_883,
 ];
 
-/// Whether a condition holds: 0 doesn't, any other value does.
+/// Whether a condition holds: any value except 0 does.
 pub fn holds(x: Num) -> bool
     ensures { result ≡ holds x }
 {
     x.raw() != 0
 }
 
-/// 1 where it is true, else 0.
+/// 1 if `is_true`, otherwise 0.
 pub fn truth(is_true: bool) -> Num
     ensures { result ≡ truth is_true }
 {
     Num::exact(if is_true { ONE } else { 0 })
 }
 
-/// What an operator makes of two values.
+/// The result of an operator on two values.
 #[inline(always)]
 pub fn combine(operator: BinOp, x: Num, y: Num) -> Num
     ensures { result ≡ combined operator x y }
@@ -55,7 +55,7 @@ pub fn negate(x: Num) -> Num
     Num::exact(0).sub(x)
 }
 
-/// What a function makes of a value.
+/// The result of a function of a value.
 pub fn apply(function: Func, x: Num) -> Num
     ensures { result ≡ applied function x }
 {

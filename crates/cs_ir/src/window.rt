@@ -1,4 +1,5 @@
-// Windows: where the registers and units of a routine begin as its steps are done; and ops in them.
+// Windows: where the registers and units of a routine begin while its steps are performed; and ops in a
+// window.
 ghost use Rattle.std.specs.Prelude.{◌≡◌, ◌+◌, ◌<◌, ◌∷◌, [], ℕ, length, slice_get, true};
 ghost use Rattle.std.specs.List.{list_all};
 ghost use Rattle.cs_ir.specs.Placed.{regs_read, there};
@@ -7,11 +8,12 @@ ghost use Rattle.cs_ir.specs.Flat.{IsLow, begin_of, further, is_small, leaves_ro
 use crate::{Call, KINDS, Kind, Op, Reg};
 use std::marker::Model;
 
-/// Where the registers of each kind and the units of a routine begin among those of a note. Contracts see where its
-/// local variables of each rate, its kept values and its units begin; temporaries are no routine's own.
+/// The first register of each kind and the first unit of a routine, within the note's registers and units.
+/// Contracts see the first local variable of each rate, the first kept value and the first unit. Routines
+/// share temporaries.
 #[derive(Clone, Copy)]
 pub struct Window {
-    /// By kind; 0 of temporaries.
+    /// Indexed by kind; 0 for temporaries.
     begins: [usize; KINDS],
     unit: usize,
 }
@@ -30,7 +32,7 @@ impl Model for Window {
 }
 
 impl Window {
-    /// The window of a code as a whole.
+    /// The window of a complete code: everything begins at 0.
     pub fn whole() -> Window
         ensures { result ≡ no_window }
     {
@@ -40,7 +42,7 @@ impl Window {
         }
     }
 
-    /// The window of what a call in it invokes.
+    /// The window of the routine that a call in this window invokes.
     pub fn further(&self, call: &Call) -> Window
         requires { leaves_room self.now ≡ true }
         ensures window { result ≡ further self.now (window_of call.now) }
@@ -60,14 +62,14 @@ impl Window {
         }
     }
 
-    /// Where the registers of a kind begin.
+    /// The number of the first register of a kind.
     pub(crate) fn begin(&self, kind: Kind) -> usize
         ensures { result ≡ begin_of self.now kind }
     {
         self.begins[kind as usize]
     }
 
-    /// A register that a routine's op names.
+    /// The note's register for a register that a routine's op names.
     #[inline(always)]
     pub fn register(&self, register: Reg) -> Reg
         requires { is_small (moved_reg self.now register) ≡ true }
@@ -80,7 +82,7 @@ impl Window {
         }
     }
 
-    /// A unit that a routine's op names.
+    /// The note's unit for a unit that a routine's op names.
     #[inline(always)]
     pub fn unit(&self, number: u32) -> usize
         requires { leaves_room self.now ≡ true }
@@ -90,7 +92,7 @@ impl Window {
     }
 }
 
-/// An op where it is done: what it names is found in a window. Contracts speak of the op with all numbers moved
+/// An op in the window in which it is performed. Contracts speak of the op with all its numbers moved
 /// (`there`).
 #[derive(Clone, Copy)]
 pub struct OpAt<'o> {
@@ -99,7 +101,7 @@ pub struct OpAt<'o> {
 }
 
 impl<'o> OpAt<'o> {
-    /// The register that it writes, where its act writes one.
+    /// The register that it writes, if its act writes one.
     #[inline(always)]
     pub fn writes(&self) -> Reg
         requires { is_small (there self.now).into ≡ true }
@@ -119,7 +121,7 @@ impl<'o> OpAt<'o> {
         }
     }
 
-    /// The one register that it reads.
+    /// The register that it reads, if it reads only one.
     #[inline(always)]
     pub fn only(&self) -> Reg
         requires one { length (there self.now).from ≡ 1 }
@@ -156,7 +158,7 @@ impl<'o> OpAt<'o> {
     }
 }
 
-/// The registers that an op reads, found in a window. Contracts speak of the list of them, moved (`regs_read`).
+/// The registers that an op reads, in a window. Contracts speak of the list of moved registers (`regs_read`).
 #[derive(Clone, Copy)]
 pub struct Reads<'o> {
     registers: &'o [Reg],
@@ -165,13 +167,14 @@ pub struct Reads<'o> {
 
 impl<'o> Reads<'o> {
     #[inline(always)]
+    /// The number of registers.
     pub fn len(&self) -> usize
         ensures { result ≡ length (regs_read self.now) }
     {
         self.registers.len()
     }
 
-    /// The register at a place, counted from 0.
+    /// The register at a place, counted from 0. `None` if the place is beyond the last register.
     #[inline(always)]
     pub fn get(&self, place: usize) -> Option<Reg>
         requires { list_all is_small (regs_read self.now) ≡ true }

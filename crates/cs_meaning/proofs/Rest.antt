@@ -1,4 +1,4 @@
--- What a unit, a store and an act on zak places leave as it is, in the world of any model.
+-- The parts of a state that units, stores and acts on zak places don't change, in the world of any model.
 use Rattle.std.proofs.Common.{◌≡◌, ℕ, ℤ, pos, ◌-◌, ◌&&◌, Bool, true, false, List, nat_le, Option, Some, None}
 use Rattle.std.proofs.Common.{if◌then◌else◌, refl}
 use Rattle.cs_base.specs.{declared.resource.Rate.Rate, declared.resource.Res.Res}
@@ -11,7 +11,7 @@ use Rattle.cs_meaning.specs.Pieces.{Table, find_table, is_live, index, may_touch
 use Rattle.cs_words.specs.declared.catalogue.Shape.TheVariants as shape
 use Rattle.cs_words.specs.declared.catalogue.Space.TheVariants as space
 
--- of a note's state all but what notes share, its units and its output
+-- all parts of a note's state except shared resources, its units and its output
 pub record Rest : Type 0 where
   pub delays : ℕ
   pub ended : Bool

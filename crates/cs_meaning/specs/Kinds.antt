@@ -1,4 +1,4 @@
--- Small notes with each kind of statement, and what operators and functions are worth.
+-- Small notes with each kind of statement, and the values of operators and functions.
 use Rattle.std.specs.Prelude.{ℕ, ℤ, pos, List, [], ◌∷◌, map, None, true}
 use Rattle.std.specs.List.{range_with_len}
 use Rattle.cs_base.specs.declared.resource.Rate.{Rate}
@@ -27,7 +27,8 @@ init_k v n = call 2 rate.Init (k v ∷ []) op.Init (value (lit n) ∷ [])
 abbrev sound_of : ℕ → Statement
 sound_of v = set 9 rate.Audio (a 0) (read (k v))
 
--- a sound, a test of whether two are equal, and a call without a result that takes a sound
+-- an audio signal, a test whether two values are equal, and a call without a result that takes an audio
+-- signal
 abbrev heard_of : ℕ → Expression
 heard_of v = var rate.Audio (a v)
 
@@ -98,6 +99,7 @@ writing_sounds = all (
 abbrev channel : Argument
 channel = text (Global (res.Sound 0))
 
+-- a1 = 3; chnmix a1, "s"; a2 chnget "s"; out a2
 abbrev pub mixing_channel : Block
 mixing_channel = all (
     three
@@ -105,7 +107,7 @@ mixing_channel = all (
     ∷ call 6 rate.Audio (a 1 ∷ []) op.Chnget (channel ∷ [])
     ∷ out (a 1) ∷ [])
 
--- the same, and then chnclear "s"
+-- a1 = 3; chnmix a1, "s"; a2 chnget "s"; out a2; chnclear "s"
 abbrev pub clearing_channel : Block
 clearing_channel = all (
     three
@@ -118,6 +120,7 @@ clearing_channel = all (
 abbrev held_channel : Argument
 held_channel = text (Global (res.Control 0))
 
+-- chnset p4, "c"; k1 chnget "c"; a1 = k1; out a1
 abbrev pub setting_channel : Block
 setting_channel = all (
     call 3 rate.Init [] op.Chnset (value (field rate.Init 4) ∷ held_channel ∷ [])
@@ -144,20 +147,22 @@ sizing = all (
     call 1 rate.Init [] op.Zakinit (value (lit 2) ∷ value (lit 2) ∷ [])
     ∷ set 2 rate.Audio (a 0) (lit 1) ∷ out (a 0) ∷ [])
 
--- what an expression is worth as a note begins
+-- the value of an expression as a note begins
 abbrev pub worth : Expression → ℤ
 worth e = first_value (plain (small_piece 0 0)) (new_note (fresh (λ g. silence))) e
 
--- what an operator makes of two whole numbers, and a function of a number in 65,536ths
+-- the result of an operator on two integers
 abbrev pub made_of : BinOp → ℕ → ℕ → ℤ
 made_of o x y = worth (pair rate.Init o (lit x) (lit y))
 
+-- the result of a function of a number in 65,536ths
 abbrev pub of_number : Func → ℤ → ℤ
 of_number f z = worth (apply rate.Init f (number rate.Init z))
 
--- a piece with a live table 1 of four points, and its points after a note that begins where they were 0
+-- a piece with a live table 1 of four points, and its points after a note that begins when all of them are 0
 abbrev with_table : Piece
 with_table = record (small_piece 0 0) { tables = record { number = 1; size = 4; frozen = None; present = true } ∷ [] }
 
+-- the points of table 1 after a note that begins when all of them are 0
 abbrev pub points_after : Block → List ℤ
 points_after b = map ((begun with_table b (λ g. silence)).world.shared (res.Table 1)) (range_with_len 0 4)

@@ -1,4 +1,4 @@
--- What a note does in a control cycle.
+-- The actions of a note in a control cycle.
 use Rattle.std.specs.Prelude.{◌∷◌, if◌then◌else◌}
 use Rattle.cs_ir.specs.{Values.holds, Waves.if_init, Worlds.World}
 use Rattle.cs_meaning.specs.Core.{Stmt, Block, Arms, set, unit, zak, store, out, out_at, ask, turnoff, nothing, choose}
@@ -6,7 +6,7 @@ use Rattle.cs_meaning.specs.{Core.no_stmt, Core.andthen, Core.otherwise, Core.ar
 use Rattle.cs_meaning.specs.Notes.{Note, StatementPlace, moved_to, inside, inside_arm, past_stmt, past_arm, assign}
 use Rattle.cs_meaning.specs.Notes.{value, values, done, sent, sent_at}
 
--- Performance: every statement of another rate than Init, in the order of the text. An `if` takes the first arm whose
+-- Performance: every statement that isn't i-rate, in the order of the text. An `if` takes the first arm whose
 -- condition holds.
 abbrev mutual
   pub perf_stmt : {W : Type 0} → World W → StatementPlace → Stmt → Note W → Note W

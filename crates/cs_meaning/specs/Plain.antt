@@ -1,4 +1,5 @@
--- The plain world: what notes share as one map of values, and each unit as the list of all its inputs so far.
+-- The plain world: shared resources are one map of values, and each unit is the list of all its inputs so
+-- far.
 use Rattle.std.specs.Prelude.{ℕ, ℤ, Bool, ◌+◌, ◌++◌, List, [], map, if◌then◌else◌}
 use Rattle.std.specs.List.{range_with_len}
 use Rattle.cs_base.specs.{Rates.same_res, declared.resource.Rate.Rate, declared.resource.Res.Res}
@@ -10,38 +11,44 @@ pub use Rattle.cs_meaning.specs.Pieces.{Piece, Table, head_value, index, added, 
 pub use Rattle.cs_meaning.specs.Pieces.{find_table, is_there, points_of, read_points, is_live, stored}
 pub use Rattle.cs_meaning.specs.Pieces.{places_of_indices, is_delay, has_place, at_place, is_between, is_cleared}
 
--- a unit: its opcode, its rate, its settled values, and its inputs at each step so far
+-- a unit: its opcode, its rate, its settled values, and its inputs in each step so far
 pub record History : Type 0 where
   pub opcode : Opcode
   pub rate : Rate
   pub settled : List ℤ
   pub inputs : List (List ℤ)
 
+-- the state of the plain world
 abbrev pub Plain : Type 0
 Plain = State (Res → Wave) History
 
--- as a note begins, and as a note goes on in its next cycle
+-- the state as a note begins
 abbrev pub fresh : (Res → Wave) → Plain
 fresh = fresh_state
 
+-- the state as a note goes on in its next cycle
 abbrev pub next_cycle : (Res → Wave) → Plain → Plain
 next_cycle shared x = record x { shared = shared; outs = λ c. silence }
 
--- one resource takes a value; and some become silent
+-- one resource is assigned a value
 abbrev pub shared_with : Res → Wave → (Res → Wave) → Res → Wave
 shared_with g w f h = if same_res h g then w else f h
 
+-- some resources become silent
 abbrev pub silenced : (Res → Bool) → (Res → Wave) → Res → Wave
 silenced clears f g = if clears g then silence else f g
 
--- The inputs of the first n steps of a cycle: the moving arguments at each, and the points of the table that is read.
+-- The inputs of the first n steps of a cycle: for each step, the moving arguments and the points of the
+-- table.
 abbrev pub inputs_of : List Wave → List ℤ → ℕ → List (List ℤ)
 inputs_of ws points n = map (λ j. map (λ w. w j) ws ++ points) (range_with_len 0 n)
 
--- a unit with a state over a cycle: it has had all these inputs, and gives at each frame what they make
+-- a unit with a state over a cycle: all these inputs are added to its history, and its result at each frame
+-- is the generator of its history
 abbrev pub has_had : Piece → List Wave → List ℤ → History → History
 has_had piece ws points h = record h { inputs = h.inputs ++ inputs_of ws points (steps_of piece.head.ksmps h.rate) }
 
+-- the result of a unit at each frame of a cycle
 abbrev pub generated : Piece → History → List Wave → List ℤ → Wave
 generated piece h ws points =
     λ j. piece.generators.gen h.opcode h.rate h.settled (h.inputs ++ inputs_of ws points (step_at h.rate j + 1))
@@ -59,5 +66,6 @@ plain_model piece = record {
   plays = λ r ws points h. (has_had piece ws points h, generated piece h ws points);
 }
 
+-- the plain world of a piece
 abbrev pub plain : Piece → World Plain
 plain piece = world_of (plain_model piece)

@@ -1,4 +1,5 @@
--- Which of what notes share a note may read or write, as it begins and in a control cycle, in the order of the text.
+-- The shared resources that a note may read or write, as it begins and in a control cycle, in the order of
+-- the text.
 use Rattle.std.specs.{Prelude.List, Prelude.[], Prelude.◌∷◌, Prelude.◌++◌, List.flat_map}
 use Rattle.cs_base.specs.{declared.resource.Rate.Rate, declared.resource.Res.Res}
 use Rattle.cs_typed.specs.TypedTree.{Expression, number, var, field, head, neg, pair, pick, apply}
@@ -11,16 +12,18 @@ use Rattle.cs_meaning.specs.Core.{no_stmt, andthen, otherwise, arm}
 use Rattle.cs_base.specs.declared.resource.Rate.TheVariants as rate
 pub use Rattle.cs_meaning.specs.When.{When, beginning, cycle}
 
--- Of what is done at a rate: as the note begins all of it where it is done once, else what is kept of it; and in a
--- cycle what is done anew in each.
+-- The resources of an action at a rate. As the note begins: `once` if it is performed once, otherwise `kept`,
+-- for its kept parts. In a cycle: `each`, if it is performed in each cycle.
 abbrev pub done_at : When → Rate → List Res → List Res → List Res → List Res
 done_at beginning r once kept each = if_init r once kept
 done_at cycle r once kept each = if_init r [] each
 
+-- the resource of a global variable, as a list
 abbrev pub var_uses : Variable → List Res
 var_uses (Local r n) = []
 var_uses (Global g) = g ∷ []
 
+-- the resource of an optional result variable, as a list
 abbrev pub vars_use : List Variable → List Res
 vars_use [] = []
 vars_use (v ∷ vs) = var_uses v
@@ -36,11 +39,12 @@ expr_reads (pair r o a b) = expr_reads a ++ expr_reads b
 expr_reads (pick r c a b) = expr_reads c ++ (expr_reads a ++ expr_reads b)
 expr_reads (apply r f a) = expr_reads a
 
+-- all variables of these expressions
 abbrev pub exprs_read : List Expression → List Res
 exprs_read es = flat_map expr_reads es
 
--- What an expression reads: as the note begins its outermost parts that don't change are worked out, in a cycle the
--- others.
+-- The variables that an expression reads. As the note begins, its outermost i-rate parts are evaluated; in a
+-- cycle, all other parts.
 abbrev pub expr_used : When → Expression → List Res
 expr_used w (number r n) = []
 expr_used w (var r v) = done_at w r (var_uses v) [] (var_uses v)
@@ -54,10 +58,11 @@ expr_used w (pick r c a b) =
     done_at w r (expr_reads c ++ (expr_reads a ++ expr_reads b)) parts parts
 expr_used w (apply r f a) = done_at w r (expr_reads a) (expr_used w a) (expr_used w a)
 
+-- the variables that these expressions read, as the note begins or in a cycle
 abbrev pub exprs_used : When → List Expression → List Res
 exprs_used w es = flat_map (expr_used w) es
 
--- What statements may touch, in any branch. Whatever is written counts as used.
+-- The resources that statements may touch, in any branch. A written resource also counts as used.
 abbrev mutual
   pub stmt_touched : Access → When → Stock → Stmt → List Res
   stmt_touched t w stock (set r v e) =
@@ -93,15 +98,18 @@ abbrev mutual
   arms_touched t w stock (arm c b rest) =
       read_only t (expr_used w c) ++ (block_touched t w stock b ++ arms_touched t w stock rest)
 
--- what a note may read or write, and may write, in a control cycle and as it begins
+-- the resources that a note may read or write in a control cycle
 abbrev pub block_uses : Stock → Block → List Res
 block_uses = block_touched may_use cycle
 
+-- the resources that a note may write in a control cycle
 abbrev pub block_writes : Stock → Block → List Res
 block_writes = block_touched may_write cycle
 
+-- the resources that a note may read or write as it begins
 abbrev pub block_begins : Stock → Block → List Res
 block_begins = block_touched may_use beginning
 
+-- the resources that a note may write as it begins
 abbrev pub block_begin_writes : Stock → Block → List Res
 block_begin_writes = block_touched may_write beginning

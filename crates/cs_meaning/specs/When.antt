@@ -1,4 +1,4 @@
--- The two times at which a note's statements do something.
+-- The two times at which a note's statements are performed.
 
 -- as a note begins, or in a control cycle
 pub data When : Type 0 where

@@ -1,4 +1,5 @@
-// Each kind of statement, and each operator and function, once: calls that do nothing, whose contracts are the laws.
+// Worked examples of each kind of statement, each operator and each function. These functions do nothing;
+// their contracts are the examples.
 ghost use Rattle.std.specs.Prelude.{◌≡◌, ◌∷◌, [], pos, negsuc, Some};
 ghost use Rattle.cs_base.specs.declared.resource.Rate.TheVariants as rate;
 ghost use Rattle.cs_words.specs.declared.sign.BinOp.TheVariants as sign;
@@ -11,18 +12,19 @@ ghost use Rattle.cs_meaning.specs.Kinds.{writing_sounds, mixing_channel, clearin
 ghost use Rattle.cs_meaning.specs.Kinds.{sending_to_numbers, choosing, sizing, worth, made_of, of_number, points_after};
 ghost use Rattle.cs_meaning.specs.Model.{no_table};
 
-/// Notes of one kind of statement each, worked out from the definitions: what is heard in two cycles of four frames.
+/// Worked examples: one kind of statement per note, and what is heard in two cycles of four frames.
 pub fn kinds_worked_by_hand()
-    // An `if` that may choose anew in each cycle initialises all its arms, and so an `if` inside one of them.
+    // An `if` that may choose anew in each cycle initialises all its arms, and also an `if` inside one of
+    // them.
     ensures both_arms { heard (small_piece 0 0) no_code (initialising_both ∷ [])
         ≡ each (whole 4) ∷ each (whole 4) ∷ [] }
     ensures inside { heard (small_piece 0 0) no_code (deciding_inside ∷ []) ≡ each (whole 3) ∷ each (whole 3) ∷ [] }
-    // `i` of a variable has what it had as the note began.
+    // `i` of a variable is the value that the variable had as the note began.
     ensures read_once { heard (small_piece 0 0) no_code (reading_once ∷ []) ≡ each (whole 56) ∷ each (whole 57) ∷ [] }
-    // A choice, and a `zakinit`, which does nothing here.
+    // A conditional expression, and a `zakinit`, which does nothing here.
     ensures chosen { heard (small_piece 0 0) no_code (choosing ∷ []) ≡ each (whole 2) ∷ each (whole 2) ∷ [] }
     ensures sized { heard (small_piece 3 3) no_code (sizing ∷ []) ≡ each (whole 1) ∷ each (whole 1) ∷ [] }
-    // `tablew` stores at its index; a note whose table isn't there is refused.
+    // `tablew` stores at its index. A note whose table doesn't exist is refused.
     ensures stored { points_after storing ≡ whole 0 ∷ whole 0 ∷ whole 9 ∷ whole 0 ∷ [] }
     ensures refused { cause_of (small_piece 0 0) storing ≡ Some (no_table (pos 1)) }
     // `zawm` adds and `zaw` stores; `zacl` sets places to 0.
@@ -30,19 +32,19 @@ pub fn kinds_worked_by_hand()
         ≡ each (whole 60) ∷ each (whole 60) ∷ [] }
     ensures written_places { heard (small_piece 3 3) no_code (writing_sounds ∷ [])
         ≡ each (whole 3) ∷ each (whole 3) ∷ [] }
-    // `chnmix` adds to what the cycle before left, `chnclear` sets to 0, `chnset` stores.
+    // `chnmix` adds to the value left by the previous cycle, `chnclear` sets to 0, `chnset` stores.
     ensures mixed_channel { heard (small_piece 0 0) no_code (mixing_channel ∷ [])
         ≡ each (whole 3) ∷ each (whole 6) ∷ [] }
     ensures cleared_channel { heard (small_piece 0 0) no_code (clearing_channel ∷ [])
         ≡ each (whole 3) ∷ each (whole 3) ∷ [] }
     ensures set_channel { heard (small_piece 0 0) no_code (setting_channel ∷ [])
         ≡ each (whole 7) ∷ each (whole 7) ∷ [] }
-    // Of one channel the numbers 2, 0 and -1 name none, and 1.9 names it.
+    // With one channel, the numbers 2, 0 and -1 name no channel, and 1.9 names channel 1.
     ensures numbered { heard (small_piece 0 0) no_code (sending_to_numbers ∷ [])
         ≡ each (whole 3) ∷ each (whole 3) ∷ [] }
 {}
 
-/// What each operator, each function and the header's names are worth, worked out from the definitions.
+/// Worked examples: the values of each operator, each function and the header's names.
 pub fn values_worked_by_hand()
     ensures sum { made_of sign.Add 7 2 ≡ whole 9 }
     ensures difference { made_of sign.Sub 2 7 ≡ negsuc 327679 }
@@ -66,9 +68,9 @@ pub fn values_worked_by_hand()
     ensures fraction { of_number func.Frac (pos 163840) ≡ pos 32768 }
     ensures distance { of_number func.Abs (negsuc 32767) ≡ pos 32768 }
     ensures floor { of_number func.Floor (negsuc 32767) ≡ negsuc 65535 }
-    // 8.09 is a of 440 hertz.
+    // 8.09 is an A of 440 hertz.
     ensures pitch { of_number func.Cpspch (pos 530186) ≡ whole 440 }
-    // Eight frames a second, four a cycle, one channel.
+    // Eight frames a second, four frames a cycle, one channel.
     ensures frames { worth (head rate.Init name.Sr) ≡ whole 8 }
     ensures cycles { worth (head rate.Init name.Kr) ≡ whole 2 }
     ensures cycle { worth (head rate.Init name.Ksmps) ≡ whole 4 }

@@ -1,16 +1,17 @@
-//! What a note means: its initialisation and its performance over the typed tree, and what it uses and writes of what
-//! notes share.
+//! The meaning of a note: its initialisation and its performance over the typed tree, and the shared
+//! resources that it uses and writes.
 //!
-//! A crate of definitions, which the code of notes, the voices and the life of notes stand on. specs/Core says what
-//! each statement is short for; specs/Notes what an expression is worth; specs/Initialising and specs/Performing what
-//! a note does as it begins and in a control cycle, in any world (cs_ir's `World`); specs/Uses what it touches.
-//! specs/Pieces is what a note finds; specs/Model a world by its model, which says how what notes share is kept and how
-//! a unit runs; specs/Plain the plain world, where what notes share is one map and a unit is the list of its inputs.
-//! specs/Examples are small pieces as typed trees, specs/Kinds notes with each kind of statement.
+//! A crate of definitions, on which the code of notes, the voices and the life of notes depend. specs/Core
+//! reduces each statement to a core statement. specs/Notes defines the values of expressions.
+//! specs/Initialising and specs/Performing define the actions of a note as it begins and in a control cycle,
+//! in any world (cs_ir's `World`). specs/Uses defines the resources that it touches. specs/Pieces defines the
+//! piece in which a note plays. specs/Model describes a world by the way it stores shared resources and runs
+//! units. specs/Plain is the plain world, in which shared resources are one map and a unit is the list of its
+//! inputs. specs/Examples has small pieces as typed trees, specs/Kinds notes with each kind of statement.
 //!
-//! Its one contract: the examples are worth what was reckoned by hand (`notes_worked_by_hand`, `kinds_worked_by_hand`,
-//! `values_worked_by_hand`). A definition here may be said in other words where every law of the crates above still
-//! stands.
+//! Its one contract: the examples have the values that were computed by hand (`notes_worked_by_hand`,
+//! `kinds_worked_by_hand`, `values_worked_by_hand`). A definition may be rephrased if every law of the crates
+//! above still holds.
 #![tactic(auto)]
 
 mod kinds;

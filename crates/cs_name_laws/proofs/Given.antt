@@ -1,4 +1,4 @@
--- Each global variable that a statement of an orchestra gives is among those of the orchestra.
+-- Each global variable that a statement of an orchestra assigns is among the orchestra's global variables.
 use Rattle.std.proofs.Common.{◌≡◌, ℕ, Bool, true, false, List, [], ◌∷◌, nat_lt, if◌then◌else◌}
 use Rattle.std.specs.List.{All}
 use Rattle.std.proofs.lemmas.List.Elements.{All-weaker}
@@ -15,7 +15,7 @@ use Rattle.cs_typing.proofs.Later.{in_on}
 abbrev pub IsGiven : RateNames → List ℕ → Type 0
 IsGiven g name = is_global name ≡ true → in_table g name ≡ true
 
--- so is each name that statements give
+-- each name that statements assign is among these, if it is global
 abbrev mutual
   pub Gives : RateNames → Statement → Type 0
   Gives g (set line name e) = IsGiven g name
@@ -62,7 +62,7 @@ instruments_keep : (t : RateNames) (list : List Instrument) → IsWithin t (glob
 instruments_keep t [] m h = h
 instruments_keep t (i ∷ rest) m h = instruments_keep (globals_of_block t i.body) rest m (block_keeps t i.body m h)
 
--- ---- what is given is there
+-- ---- assigned names are present
 
 mutual
   gives : (t : RateNames) (x : Statement) (g : RateNames) → IsWithin (globals t x) g → Gives g x

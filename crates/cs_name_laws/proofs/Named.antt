@@ -1,4 +1,5 @@
--- What an orchestra without a fault becomes names only what is there at the end of its text.
+-- The typed form of an orchestra without a fault names only variables and channels that are known at the end
+-- of its text.
 use Rattle.std.proofs.Common.{◌≡◌, ℕ, Bool, true, false, ◌&&◌, nat_lt, List, [], ◌∷◌, length, map, Option, Some, None}
 use Rattle.std.proofs.Common.{arith, refl, sym, subst, if◌then◌else◌}
 use Rattle.std.specs.{List.All, Option.option_or}
@@ -46,7 +47,7 @@ then_part : (b x y : Bool) → (if b then x else y) ≡ true → b ≡ true → 
 then_part true x y h e = h
 then_part false x y h e = absurd (cc e)
 
--- where all bodies know no more than this in the end
+-- all bodies know at most the names of t in the end
 module _ (t : Shared) where
   abbrev P : Variable → Type 0
   P v = IsNamed (shared_names t) v
@@ -113,14 +114,14 @@ module _ (t : Shared) where
       All-cons (EachInArgument P) (typed.value (typed_expression n e)) (typed_arguments n role rest)
       (named n e s parts.0) (more parts.1)
 
-  -- where no text leaves a trace
+  -- no text argument leaves a trace in the typed form
   plain_named : (n : KnownHere) (args : List Argument) → IsEarlier n → all_known n args ≡ true
       → ArgumentsNamed n None args
   plain_named n [] s h = All-nil (EachInArgument P)
   plain_named n (value e ∷ rest) s h = one_value n None e rest s h (plain_named n rest s)
   plain_named n (text name ∷ rest) s h = plain_named n rest s (and_parts true (all_known n rest) h).1
 
-  -- where each text is the channel that is used
+  -- each text argument is the channel that is used
   texts_named : (n : KnownHere) (kind : Channel) (name : List ℕ) (args : List Argument) → TextsAre name args
       → IsEarlier n → SharedGoesOn (used n.shared kind name) t → all_known n args ≡ true
       → ArgumentsNamed n (Some kind) args

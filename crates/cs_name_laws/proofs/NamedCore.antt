@@ -1,4 +1,4 @@
--- The core of statements that name only what is there names no more.
+-- The core statement of a statement names no more variables and channels than the statement itself.
 use Rattle.std.proofs.Common.{Bool, true, false, ℕ, ◌+◌, List, [], ◌∷◌, if◌then◌else◌}
 use Rattle.std.specs.List.{All}
 use Rattle.std.proofs.lemmas.List.Elements.{All-cons, All-nil, All-head, All-tail}
@@ -15,7 +15,7 @@ use Rattle.cs_words.specs.declared.catalogue.Shape.TheVariants as shape
 use Rattle.cs_typed.specs.TypedTree as typed
 
 module _ (names : SharedNames) where
-  -- all that statements of the core read and give by name
+  -- all variables and channels that core statements read and assign are named
   abbrev mutual
     pub IsNamedCore : Stmt → Type 0
     IsNamedCore (set r v e) = IsNamed names v × EachInExpression (IsNamed names) e
@@ -84,7 +84,7 @@ module _ (names : SharedNames) where
       either_way (is_settled (letter_at row n)) _ (e ∷ more) after (one_more e _ (first _ _ h) after)
   moving_named row n (typed.text v ∷ rest) h = moving_named row (n + 1) rest (others (typed.text v) rest h)
 
-  -- a call that stays a unit
+  -- a call whose core statement is a unit
   unit_named : (row : Row) (vs : List Variable) (args : List typed.Argument)
       → All (IsNamed names) vs → AreNamedArguments args
       → All (IsNamed names) vs × AreNamedValues (moving row 0 args) × AreNamedValues (settled row 0 args)
@@ -93,7 +93,7 @@ module _ (names : SharedNames) where
   result : (v : Variable) (vs : List Variable) → All (IsNamed names) (v ∷ vs) → IsNamed names v
   result v vs h = All-head (IsNamed names) v vs h
 
-  -- the second argument
+  -- the second argument of a call
   second : (a b : typed.Argument) (rest : List typed.Argument)
       → AreNamedArguments (a ∷ b ∷ rest) → EachInArgument (IsNamed names) b
   second a b rest h = first b rest (others a (b ∷ rest) h)

@@ -1,4 +1,4 @@
--- What a note may read or write is there.
+-- All resources that a note may read or write exist.
 use Rattle.std.proofs.Common.{◌≡◌, ◌<◌, ◌+◌, ◌==◌, ℕ, Bool, true, false, nat_lt, List, [], ◌∷◌, ◌++◌, filter, get_or}
 use Rattle.std.proofs.Common.{arith, subst, if◌then◌else◌}
 use Rattle.std.specs.List.{All, Contains, flat_map, list_any, range_with_len}
@@ -89,7 +89,7 @@ module _ (names : SharedNames) (stock : Stock) where
       by_rate w r (expr_reads a) (expr_used w a) (expr_used w a) (reads_there a h) part part
   uses_there w e h = none
 
-  -- of each of some expressions
+  -- the resources of each expression of a list
   each_there : (f : Expression → List Res) → ((e : Expression) → EachInExpression (IsNamed names) e → AreThere (f e))
       → (es : List Expression) → All (EachInExpression (IsNamed names)) es → AreThere (flat_map f es)
   each_there f one [] h = none

@@ -1,12 +1,13 @@
-//! What notes share is there: each variable, channel, zak place and table that a note may touch is one that its piece
-//! has.
+//! Shared resources exist: each variable, channel, zak place and table that a note may touch is one that its
+//! piece has.
 //!
-//! In the order of reading: specs/Names says what a typed tree names and what a piece has, `laws` what follows.
+//! In reading order: specs/Names defines the names in a typed tree and the resources of a piece, `laws` the
+//! two facts about them.
 //!
-//! The two contracts: `typed_trees_name_what_there_is`, by which an orchestra without a fault names no global variable
-//! and no channel but those of its own lists, and `notes_touch_what_there_is`, by which all that such a note may read
-//! or write, as it begins and in a control cycle, is among these, the zak places and the live tables. How names are
-//! numbered may be changed without anyone above noticing. No code stands here.
+//! Its two contracts: by `typed_trees_name_what_there_is`, an orchestra without a fault names only global
+//! variables and channels from its lists. By `notes_touch_what_there_is`, all resources that such a note
+//! may read or write, as it begins and in a control cycle, are among these, the zak places and the live
+//! tables. The numbering of names may be changed without anyone above noticing. This crate has no code.
 #![tactic(auto)]
 
 mod laws;

@@ -1,4 +1,5 @@
--- A note of no cycle asks for another: worked out with the formula of a time's cycle opened.
+-- A note of no cycle schedules another: the example is computed with the formula for the cycle of a time
+-- unfolded.
 use Rattle.std.proofs.Common.{◌≡◌, [], ◌∷◌, ◌++◌, refl}
 use Rattle.cs_meaning.specs.Examples.{each, no_code, whole}
 use Rattle.cs_time.specs.Time.{cycle_of}

@@ -1,4 +1,4 @@
--- Performances worked out with the formulas of times and tables opened.
+-- Performances computed with the formulas for times and tables unfolded.
 use Rattle.std.proofs.Common.{◌≡◌, ◌++◌, refl}
 use Rattle.cs_gen.specs.Points.{plain_point, point, points_of}
 use Rattle.cs_ugen.specs.{Table.table_of, Units.gen}

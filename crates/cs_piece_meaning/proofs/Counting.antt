@@ -1,4 +1,4 @@
--- Each start is counted once, as one that started a note or as one that started nothing.
+-- Each start is counted once, either among the starts that started a note or among those that didn't.
 use Rattle.std.proofs.Common.{◌≡◌, ◌≢◌, ◌≤◌, ◌<◌, ◌∙◌, ℕ, ℤ, pos, zero, suc, ◌+◌, ◌==◌, Bool, cond, true, false, nat_le}
 use Rattle.std.proofs.Common.{List, [], ◌∷◌, ◌++◌, length, is_some, slice_index_or, Option, Some, None, refl, sym, ap}
 use Rattle.std.proofs.Common.{arith, eq-eqb, length-append, ne_eqb, if◌then◌else◌}
@@ -24,13 +24,13 @@ use Rattle.cs_base.specs.declared.resource.Res.TheVariants as res
 use Rattle.cs_sched.specs.declared.pending.Added.TheVariants as added
 use Rattle.cs_tempo.specs.declared.plot.EventAct.TheVariants as act
 
--- THE SUM of a function below a number
+-- THE SUM of a function over the numbers below n
 
 abbrev pub below : ℕ → (ℕ → ℕ) → ℕ
 below zero f = 0
 below (suc n) f = below n f + f n
 
--- where it is one more at one place
+-- the sum is one more if the function is one more at one place
 module _ (f g : ℕ → ℕ) (j : ℕ) (others : (k : ℕ) → k ≢ j → g k ≡ f k) (here : g j ≡ f j + 1) where
   below_it : (n : ℕ) → n ≤ j → below n g ≡ below n f
   below_it zero l = refl
@@ -60,12 +60,12 @@ below_none (suc n) f h =
     let before = below_none n f (λ k l. h k (omega (arith, l))) in let now =
     h n (omega arith) in omega (arith, before, now)
 
--- WHO WAITS in a piece of so many cycles
+-- THE WAITING NOTES in a piece of `cycles` cycles
 
 abbrev pub waiting_in : ℕ → Waiting → ℕ
 waiting_in cycles w = below (suc cycles) (λ k. length (w.due k))
 
--- one more is kept
+-- one more note is added
 pub kept_more : (cycles : ℕ) (d : Due) (w : Waiting) → d.cycle < cycles
     → waiting_in cycles (with_answer added.Kept d w) ≡ waiting_in cycles w + 1
 kept_more cycles d w l =
@@ -74,7 +74,7 @@ kept_more cycles d w l =
     (ap (λ b. length (if b then w.due d.cycle ++ d ∷ [] else w.due d.cycle)) (eq-eqb d.cycle d.cycle refl)
     ∙ length-append (w.due d.cycle) (d ∷ [])) (suc cycles) (omega (arith, l))
 
--- one is taken out
+-- one note is taken out
 pub taken_one : (cycles now : ℕ) (d : Due) (rest : List Due) (w : Waiting) → now ≤ cycles → w.due now ≡ d ∷ rest
     → waiting_in cycles w ≡ waiting_in cycles (taken now rest w) + 1
 taken_one cycles now d rest w l is =
@@ -84,7 +84,7 @@ taken_one cycles now d rest w l is =
     (ap length is ∙ long ∙ ap (λ b. length (if b then rest else w.due now) + 1) (sym (eq-eqb now now refl)))
     (suc cycles) (omega (arith, l))
 
--- STARTS that are counted, and those that wait to be
+-- STARTS that are counted, and starts that wait to be counted
 
 module _ (c : Composition) where
   abbrev total : Moment → ℕ
@@ -170,7 +170,7 @@ module _ (c : Composition) where
       let rest = events_more es (act_done c e.cycle e.act m) in
       let all = sum_by-cons (λ (x : Event). cond (is_start x) 1 0) e es in omega (arith, one, rest, all)
 
-  -- those that wait for it
+  -- the notes that wait for the cycle
   first_more : (now : ℕ) (ds : List Due) (m : Moment) → now ≤ c.cycles → m.waiting.due now ≡ ds
       → total (first_started c now ds m) ≡ total m + asks_of_first c now ds m
   first_more now [] m l is = omega arith

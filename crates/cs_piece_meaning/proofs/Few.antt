@@ -1,4 +1,4 @@
--- A piece whose instruments ask for few notes has few starts.
+-- A piece whose instruments schedule few notes has few starts.
 use Rattle.std.proofs.Common.{◌≡◌, ◌≤◌, ◌<◌, ℕ, ℤ, pos, zero, suc, ◌+◌, ◌*◌, ◌==◌, Bool, true, false, List, [], ◌∷◌}
 use Rattle.std.proofs.Common.{length, filter, is_some, slice_index_or, Option, Some, None, refl, arith, if◌then◌else◌}
 use Rattle.std.proofs.lemmas.Bool.Decides.{nat_tests}
@@ -22,13 +22,13 @@ use Rattle.cs_base.specs.declared.resource.Res.TheVariants as res
 use Rattle.cs_sched.specs.declared.pending.Added.TheVariants as added
 use Rattle.cs_tempo.specs.declared.plot.EventAct.TheVariants as act
 
--- THE EVENTS of all cycles are those that there are
+-- THE EVENTS of all cycles together are the events of the piece
 
--- whether an event of a cycle is one of this cycle
+-- whether an event is in cycle k, as a number
 abbrev here : ℕ → ℕ → ℕ
 here cycle k = if cycle == k then 1 else 0
 
--- one number is met once below another, at most
+-- a number equals at most one of the numbers below another
 none_here : (cycle n : ℕ) → n ≤ cycle → below n (here cycle) ≡ 0
 none_here cycle zero l = refl
 none_here cycle (suc n) l = by (cycle == n) refl (none_here cycle n (omega (arith, l)))
@@ -75,20 +75,20 @@ all_events n (e ∷ es) =
     let one = once_here e.cycle n in
     let rest = all_events n es in omega (arith, both, one, rest)
 
--- WHAT A START COSTS at most: itself, and a note that isn't kept for each statement that asks for one. A note that is
--- kept has its own start before it.
+-- THE COST OF A START is at most 2,001: the start itself, and one for each statement that schedules a note
+-- which isn't added. A note that is added has its own start later.
 abbrev price : ℕ
 price = 2001
 
 module _ (c : Composition) (bounded : IsBounded c) where
-  -- what was counted, with the price of each note that waits; and what was paid by notes that were kept
+  -- the starts counted, plus the cost of each waiting note; and the credit of the notes that were added
   abbrev spent : Moment → ℕ
   spent m = m.started + m.not_started + price * waiting_in c.cycles m.waiting
 
   abbrev earned : Moment → ℕ
   earned m = price * m.waiting.kept
 
-  -- from one moment to another no more is spent than is earned, and so much
+  -- from one moment to another, the starts spent exceed the credit earned by at most n
   abbrev Costs : ℕ → Moment → Moment → Type 0
   Costs n a b = spent b + earned a ≤ spent a + earned b + n
 
@@ -173,7 +173,7 @@ module _ (c : Composition) (bounded : IsBounded c) where
       costs_both price (price * length es) (price * length (e ∷ es)) m next (all_done c es next) (omega arith)
       (act_costs e.cycle e.act m) (events_cost es next)
 
-  -- those that wait for it: each has its price
+  -- the notes that wait for the cycle, each with its cost
   first_cost : (now : ℕ) (d : Due) (rest : List Due) (m : Moment) → now ≤ c.cycles → m.waiting.due now ≡ d ∷ rest
       → Costs 0 m (first_started c now (d ∷ rest) m)
   first_cost now d rest m l is =

@@ -1,4 +1,4 @@
--- The notes of a cycle are those of the one before that stay, and those that start.
+-- The notes of a cycle are the notes of the previous cycle that stay, and the notes that start.
 use Rattle.std.proofs.Common.{◌≡◌, ◌⊎◌, inl, inr, ⊎_elim, ℕ, zero, suc, ◌+◌, ◌-◌, ◌<◌, ◌≤◌, ◌==◌, Bool, true, false}
 use Rattle.std.proofs.Common.{not, nat_lt, cond, List, [], ◌∷◌, refl, sym, ap, subst, ◌∙◌, arith, true≢false, Contains}
 use Rattle.std.proofs.Common.{if◌then◌else◌}
@@ -23,7 +23,7 @@ module _ {A : Type 0} where
   either x xs a (zero, lt, e) = inl e
   either x xs a (suc k, lt, e) = inr (k, omega (arith, lt), e)
 
-  -- what passes a test is among what passes it
+  -- an item of a list that passes a test is among the items that pass
   among : (p : A → Bool) (x : A) (xs : List A) (a : A) (b : Bool) → p x ≡ b → p a ≡ true
       → (x ≡ a) ⊎ Contains (filter p xs) a → Contains (cond b (x ∷ filter p xs) (filter p xs)) a
   among p x xs a true e is (inl same) = subst (λ y. Contains (x ∷ filter p xs) y) same (here x (filter p xs))
@@ -40,7 +40,7 @@ module _ {A : Type 0} where
   passed p xs a h = All-contains (Contains xs) (filter p xs) a (All-filter p (Contains xs) xs (All-contains_itself xs))
       h
 
--- A note that takes its place leaves all others among those that play.
+-- When a note is placed, all other notes remain.
 still_among : (n : Active) (active : List Active) (a : Active) → Contains active a → Contains (placed n active) a
 still_among n active a h = by (low a) refl
   where
@@ -67,7 +67,7 @@ new_or_old n active a h =
     (Contains-append_cases (filter (λ (x : Active). at_most x.number n.number) active)
     (n ∷ filter (λ (x : Active). not (at_most x.number n.number)) active) a h)
 
--- The notes that played stay, and all others were started later than so many.
+-- The notes that played before stay, and all other notes were started after the first `base` starts.
 record Grown (old : List Active) (base : ℕ) (active : List Active) (count : ℕ) : Type 0 where
   pub low : base ≤ count
   pub stay : (a : Active) → Contains old a → Contains active a
@@ -138,7 +138,7 @@ same_trans a b d e f = record {
   body = f.body ∙ e.body;
 }
 
--- of an element of the second of two lists, that of the first at its place
+-- the note of the first list that corresponds to a note of the second list
 partner : (xs ys : List Active) (b : Active) → AllZip IsSameNote xs ys → Contains ys b
     → (d : Active) × Contains xs d × IsSameNote d b
 partner xs [] b same (k, lt, e) = absurd (omega (arith, lt))
@@ -147,7 +147,8 @@ partner (x ∷ xs) (y ∷ ys) b same h =
     ⊎_elim (λ e. (x, here x xs, subst (λ z. IsSameNote x z) e same.0))
     (λ rest. let r = partner xs ys b same.1 rest in (r.0, behind x xs r.0 r.1, r.2)) (either y ys b h)
 
--- Notes of each cycle of which those of the next that were started before come from it.
+-- The notes of each cycle: a note of the next cycle that was started before corresponds to a note of this
+-- cycle.
 module _ (notes : ℕ → List Active) (count : ℕ → ℕ) (rising : (n : ℕ) → count n ≤ count (suc n))
     (down : (k : ℕ) (b : Active) → Contains (notes (suc k)) b → b.age < count (suc k)
     → (d : Active) × Contains (notes k) d × IsSameNote d b) where

@@ -1,4 +1,4 @@
--- A start that finds as many notes as may play.
+-- A start when as many notes play as allowed.
 use Rattle.std.proofs.Common.{◌≡◌, ◌≢◌, ℕ, ◌==◌, false, nat_lt, length, Option, Some, None, refl, ap, arith}
 use Rattle.std.proofs.Common.{if◌then◌else◌}
 use Rattle.std.proofs.lemmas.Bool.Decides.{nat_tests}

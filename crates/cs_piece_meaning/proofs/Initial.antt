@@ -1,4 +1,4 @@
--- How what a note does as it begins changes its world: step by step, as its statements do.
+-- The changes that a note makes to its world as it begins, step by step through its statements.
 use Rattle.std.proofs.Common.{◌≡◌, ◌≤◌, ◌+◌, ℕ, ℤ, Bool, true, false, List, [], ◌∷◌, arith, if◌then◌else◌}
 use Rattle.cs_base.specs.{Rates.res_rate, declared.resource.Rate.Rate, declared.resource.Res.Res}
 use Rattle.cs_typed.specs.TypedTree.{Expression, neg, pair, pick, apply}
@@ -21,8 +21,8 @@ pub chosen_is : {A B : Type 0} (f : A → B) (b : Bool) (x y : A) (z : B) → f 
 chosen_is f true x y z e g = e
 chosen_is f false x y z e g = g
 
--- What holds of a world and of the one after it, by how many notes are asked for between them: it holds where nothing
--- is done, one after the other, of more notes too, and for each step of an initialisation.
+-- A relation between a world and a later one, indexed by the number of notes scheduled between them. It holds
+-- for no step at all, for two steps together, for larger numbers, and for each step of an initialisation.
 pub record Goes {W : Type 0} (o : World W) (S : ℕ → W → W → Type 0) : Type 0 where
   pub none : (x : W) → S 0 x x
   pub both : (m n : ℕ) (x y z : W) → S m x y → S n y z → S (m + n) x z
@@ -37,7 +37,7 @@ pub record Goes {W : Type 0} (o : World W) (S : ℕ → W → W → Type 0) : Ty
   pub ask : (is : List ℤ) (x : W) → S 1 x (o.ask is x)
 
 module _ {W : Type 0} (o : World W) (S : ℕ → W → W → Type 0) (goes : Goes o S) where
-  -- of two notes
+  -- the relation holds between the worlds of two notes
   pub record From (n : ℕ) (t u : Note W) : Type 0 where
     pub worlds : S n t.world u.world
 

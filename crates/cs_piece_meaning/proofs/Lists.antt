@@ -1,4 +1,4 @@
--- Pairs of elements of lists that are put together.
+-- Pairs of elements of lists that are joined.
 use Rattle.std.proofs.Common.{◌≡◌, zero, suc, ◌+◌, Bool, true, false, not, List, [], ◌∷◌, ◌++◌, length, get_or, refl}
 use Rattle.std.proofs.Common.{arith, length-append}
 use Rattle.std.specs.Prelude.{All, AllPairs, filter, cond}
@@ -12,7 +12,7 @@ module _ {A : Type 0} (R : A → A → Type 0) where
   pub tail_pairs : (x : A) (xs : List A) → AllPairs R (x ∷ xs) → AllPairs R xs
   tail_pairs x xs h i j d lt within = h (suc i) (suc j) d (omega arith) (omega arith)
 
-  -- two lists whose elements are each related to all of the other
+  -- two lists in which each element of the first is related to each of the second
   pub AllPairs-append : (xs ys : List A) → AllPairs R xs → AllPairs R ys → All (λ x. All (R x) ys) xs
       → AllPairs R (xs ++ ys)
   AllPairs-append [] ys first last cross = last
@@ -21,7 +21,7 @@ module _ {A : Type 0} (R : A → A → Type 0) where
       (All-append (R x) xs ys (head_pairs x xs first) (All-head (λ y. All (R y) ys) x xs cross))
       (AllPairs-append xs ys (tail_pairs x xs first) last (All-tail (λ y. All (R y) ys) x xs cross))
 
-  -- Where the relation goes both ways, what passes a test is related to what doesn't.
+  -- If the relation is symmetric, items that pass a test are related to items that don't.
   module _ (p : A → Bool) (back : (x y : A) → R x y → R y x) where
     all_of : (x : A) (xs : List A) → All (R x) xs → (b : Bool)
         → All (λ y. All (R y) (filter (λ z. not (p z)) xs)) (filter p xs)
@@ -49,7 +49,7 @@ module _ {A : Type 0} (p : A → Bool) (n : A) (xs : List A) where
       let both = length-filter_both p (λ z. not (p z)) (λ z. refl) xs in
       omega (arith, long, both)
 
-  -- the elements that pass stand before the new one, and it before those that don't
+  -- the new item comes after the items that pass the test and before the items that don't
   pub between_pairs : (R : A → A → Type 0) → All (λ x. R x n) (filter p xs) → All (R n) (filter (λ z. not (p z)) xs)
       → All (λ x. All (R x) (filter (λ z. not (p z)) xs)) (filter p xs) → AllPairs R xs
       → AllPairs R (filter p xs ++ n ∷ filter (λ z. not (p z)) xs)

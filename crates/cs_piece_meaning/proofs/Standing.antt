@@ -1,4 +1,4 @@
--- Notes stay in order through the steps of a cycle.
+-- Notes remain in order through the steps of a cycle.
 use Rattle.std.proofs.Common.{◌≡◌, ◌≢◌, ◌∙◌, ◌⊎◌, inl, inr, ⊎_elim, ℕ, ℤ, zero, suc, ◌+◌, ◌<◌, ◌≤◌, ◌<ℤ◌, ◌≤ℤ◌, ◌==◌}
 use Rattle.std.proofs.Common.{Bool, true, false, not, nat_lt, List, [], ◌∷◌, length, get_or, Some, refl, sym, arith}
 use Rattle.std.proofs.Common.{if◌then◌else◌}
@@ -19,7 +19,7 @@ use Rattle.cs_piece_meaning.proofs.Steps.{Fact, Keeps, Roomy, begins_keeps}
 abbrev HaveOtherAges : Active → Active → Type 0
 HaveOtherAges a b = a.age ≢ b.age
 
--- Notes stand in order that are of a kind, so many starts having been counted.
+-- Notes are in order and satisfy P, after `count` starts.
 pub record InOrder (P : Active → Type 0) (notes : List Active) (count : ℕ) : Type 0 where
   pub order : AllPairs StandsBefore notes
   pub ages : AllPairs HaveOtherAges notes
@@ -27,7 +27,7 @@ pub record InOrder (P : Active → Type 0) (notes : List Active) (count : ℕ) :
   pub each : All P notes
   pub few : length notes ≤ most_notes
 
--- ONE NOTE MORE
+-- ONE MORE NOTE
 
 not_above : (x y : ℤ) → at_most x y ≡ true → (x <ℤ y) ⊎ (x ≡ y)
 not_above x y h = by_lt_z x y (λ l. inl l) (λ m. inr (omega (arith, ints, not_below x y h, m)))
@@ -58,7 +58,7 @@ module _ (n : Active) where
   other_ages : (a b : Active) → HaveOtherAges a b → HaveOtherAges b a
   other_ages a b h e = h (sym e)
 
-  -- a note that was started after all others takes its place
+  -- a note that was started after all others is placed in order
   pub placed_stands : (P : Active → Type 0) (active : List Active) → InOrder P active n.age → P n
       → length active < most_notes → InOrder P (placed n active) (n.age + 1)
   placed_stands P active h this room =
@@ -99,7 +99,7 @@ filtered_stands P p active count h = record {
       h.few in omega (arith, both, most));
 }
 
--- the notes are of another kind
+-- the notes satisfy another property
 pub other_kind : (P Q : Active → Type 0) (active : List Active) (count : ℕ) → All Q active → InOrder P active count
     → InOrder Q active count
 other_kind P Q active count all h =
@@ -137,7 +137,7 @@ module _ (c : Composition) (now : ℕ) where
           placed_stands n (PlaysIn c now) active h
           (record { body = there; before_its_end = omega (arith, some); not_turned_off = on }) place
 
-  -- the notes that play in the cycle stand in order
+  -- the notes that play in the cycle are in order
   abbrev Ordered : Fact
   Ordered x active count w = InOrder (PlaysIn c now) active count
 
@@ -148,7 +148,7 @@ module _ (c : Composition) (now : ℕ) where
     take = λ x active count w d rest is h. h;
   }
 
-  -- a note of the performance: of its instrument, and not turned off
+  -- a note of the performance: it belongs to its instrument, and isn't turned off
   abbrev pub Playing : Active → Type 0
   Playing a = (c.instrument a.number ≡ Some a.body) × (a.note.world.ended ≡ false)
 

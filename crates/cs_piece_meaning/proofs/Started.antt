@@ -1,4 +1,5 @@
--- With a cycle those start that wait for it, by the rule that counts no steps, and the rule leads to one moment.
+-- The notes that wait for a cycle start by the rule that counts no steps, and the rule leads to exactly one
+-- moment.
 use Rattle.std.proofs.Common.{◌≡◌, ◌∙◌, ℕ, zero, suc, ◌≤◌, List, [], ◌∷◌, refl, sym, subst, arith}
 use Rattle.cs_base.specs.Limits.{most_asks}
 use Rattle.cs_sched.specs.declared.due.Due.{Due}
@@ -7,7 +8,7 @@ use Rattle.cs_piece_meaning.specs.{Moments.Moment, Started.AreStarted, Started.n
 use Rattle.cs_piece_meaning.specs.Starts.{all_done, first_started, unless_none, waited}
 use Rattle.cs_piece_meaning.proofs.Waits.{none_waits}
 
--- where nothing is due after some steps, these steps were those of the rule
+-- if no note is due after some steps, these steps followed the rule
 steps_are : (c : Composition) (now n : ℕ) (m : Moment) → (waited n c now m).waiting.due now ≡ []
     → AreStarted c now m (waited n c now m)
 steps_are c now zero m e = nothing_due m e
@@ -28,7 +29,7 @@ cycle_starts c n =
     let least : n ≤ n = omega arith in
     steps_are c n most_asks (all_done c (events_in c n) (still n (moment_at c n))) (none_waits c n n least)
 
--- the rule leads to one moment
+-- the rule leads to exactly one moment
 no_first : {A : Type 0} (d : Due) (rest : List Due) → d ∷ rest ≡ [] → A
 no_first d rest e = absurd (cc)
 

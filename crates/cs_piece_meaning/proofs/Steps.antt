@@ -1,5 +1,5 @@
--- What stays true through the steps with which a cycle begins, where it does at each note that joins, each that is
--- asked for and each that is taken out of those that wait.
+-- A fact that holds throughout the steps at the beginning of a cycle, if it is preserved whenever a note
+-- joins, a note is scheduled, or a waiting note is taken out.
 use Rattle.std.proofs.Common.{◌≡◌, ◌∙◌, ◌⊎◌, inl, inr, ⊎_elim, ℕ, ℤ, pos, zero, suc, ◌+◌, ◌<◌, ◌≤◌, is_some}
 use Rattle.std.proofs.Common.{slice_index_or, ◌==◌, ◌||◌, Bool, true, false, nat_lt, List, [], ◌∷◌, length, Option}
 use Rattle.std.proofs.Common.{Some, None, refl, sym, subst, arith, if◌then◌else◌}
@@ -24,7 +24,7 @@ use Rattle.cs_base.specs.declared.resource.Res.TheVariants as res
 use Rattle.cs_sched.specs.declared.pending.Added.TheVariants as added
 use Rattle.cs_tempo.specs.declared.plot.EventAct.TheVariants as act
 
--- what a note asks for leaves those that play as they are
+-- scheduling notes doesn't change the notes that play
 counted_active : (answer : Added) (m : Moment) → (counted answer m).active ≡ m.active
 counted_active added.Kept m = refl
 counted_active _ m = refl
@@ -40,19 +40,19 @@ module _ (c : Composition) (now : ℕ) (time : ℤ) where
   all_active [] m = refl
   all_active (a ∷ asks) m = all_active asks (asked c now time (ask_of a) m) ∙ asked_active a m
 
--- a start that has room
+-- there is room for a start
 abbrev pub Roomy : Start → List Active → Type 0
 Roomy s active = (s.cycles ≡ 0) ⊎ (length active < most_notes)
 
--- What is kept: something of the notes that play, the count of starts, and what waits, and of a number that goes up
--- where one is taken out.
+-- A fact about the notes that play, the number of starts, the waiting notes, and a number that increases when
+-- a waiting note is taken out.
 abbrev pub Fact : Type 1
 Fact = ℕ → List Active → ℕ → Waiting → Type 0
 
 abbrev pub At : Fact → ℕ → Moment → Type 0
 At S x m = S x m.active m.started m.waiting
 
--- It is kept where a note joins, where one is asked for, and where one is taken out.
+-- The fact is preserved when a note joins, when one is scheduled, and when one is taken out.
 pub record Keeps (c : Composition) (now : ℕ) (S : Fact) : Type 0 where
   pub join : (x : ℕ) (s : Start) (body : Block) (t : Note Plain) (active : List Active) (age : ℕ) (w : Waiting)
       → c.instrument s.number ≡ Some body
@@ -142,7 +142,7 @@ module _ (c : Composition) (now : ℕ) (S : Fact) (keeps : Keeps c now S) where
       events_keep x es (act_done c e.cycle e.act m) (All-tail (λ (y : Event). (y.cycle == now) ≡ true) e es here)
       (subst (λ at. At S x (act_done c at e.act m)) (sym is) (act_keeps x e.act m h))
 
-  -- those that wait for it: where as many were taken out as may be, or none is left
+  -- the notes that wait for the cycle, until none is left or as many were taken out as there may be
   first_keeps : (x : ℕ) (d : Due) (rest : List Due) (m : Moment) → m.waiting.due now ≡ d ∷ rest → At S x m
       → At S (x + 1) (first_started c now (d ∷ rest) m)
   first_keeps x d rest m is h =

@@ -1,4 +1,4 @@
--- Nothing that a note does as it begins turns it off, and it asks for no more notes than its statements do.
+-- A note isn't turned off as it begins, and it schedules at most as many notes as its statements do.
 use Rattle.std.proofs.Common.{◌≡◌, ◌≤◌, ◌∙◌, ℕ, ℤ, pos, ◌+◌, Bool, false, ◌&&◌, List, [], ◌∷◌, length, length-append}
 use Rattle.std.proofs.Common.{slice_index_or, refl, ap, arith, nat_le, if◌then◌else◌}
 use Rattle.cs_base.specs.{Limits.most_delay_samples, declared.resource.Rate.Rate, declared.resource.Res.Res}
@@ -12,14 +12,14 @@ use Rattle.cs_meaning.proofs.Rest.{Rest, store_rest, unit_rest, zak_rest}
 use Rattle.cs_piece_meaning.specs.Bounded.{asks_in}
 use Rattle.cs_piece_meaning.proofs.Initial.{Goes, block_goes, chosen_is}
 
--- whether a note was turned off, and what it asks for
+-- whether a note was turned off, and the notes that it schedules
 abbrev told : Plain → Bool × List (List ℤ)
 told x = (x.ended, x.asks)
 
 abbrev told_of : Rest → Bool × List (List ℤ)
 told_of r = (r.ended, r.asks)
 
--- it isn't turned off, and asks for so many notes more at most
+-- the note isn't turned off, and schedules at most n more notes
 record Begins (n : ℕ) (x y : Plain) : Type 0 where
   on : y.ended ≡ x.ended
   few : length y.asks ≤ length x.asks + n

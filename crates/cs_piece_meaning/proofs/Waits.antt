@@ -1,4 +1,4 @@
--- What waits for a cycle is started in it.
+-- Each note that waits for a cycle is started in it.
 use Rattle.std.proofs.Common.{◌≡◌, ◌≢◌, ⊎_elim, ℕ, zero, suc, ◌+◌, ◌<◌, ◌≤◌, ◌==◌, Bool, true, false, nat_le, List, []}
 use Rattle.std.proofs.Common.{◌∷◌, ◌++◌, length, refl, ap, subst, arith, length-append, if◌then◌else◌}
 use Rattle.std.specs.Int.{is_negative}
@@ -12,8 +12,8 @@ use Rattle.cs_piece_meaning.specs.Moments.{Composition, Moment, clock_of}
 use Rattle.cs_piece_meaning.proofs.Steps.{Fact, Keeps, begins_keeps}
 use Rattle.cs_sched.specs.declared.pending.Added.TheVariants as added
 
--- None waits for a cycle before this one; for no cycle more wait than were kept, for this one fewer by those that were
--- taken out.
+-- No note waits for a cycle before this one. For each cycle, at most as many notes wait as were added; for
+-- this cycle, fewer by the number that were taken out.
 record Waits (now x : ℕ) (w : Waiting) : Type 0 where
   pub past : (k : ℕ) → k < now → w.due k ≡ []
   pub few : (k : ℕ) → length (w.due k) ≤ w.kept

@@ -1,10 +1,11 @@
--- How many notes the statements of an instrument can ask for, and which pieces ask for few.
+-- The number of notes that the statements of an instrument can schedule, and the pieces in which this number
+-- is small.
 use Rattle.std.specs.Prelude.{ℕ, ℤ, ◌≡◌, ◌≤◌, ◌+◌, length, Some}
 use Rattle.cs_base.specs.Limits.{most_events, most_statements}
 use Rattle.cs_meaning.specs.Core.{Stmt, Block, Arms, ask, choose, no_stmt, andthen, otherwise, arm}
 use Rattle.cs_piece_meaning.specs.Moments.{Composition}
 
--- how many statements ask for a note, those in all arms of an `if` among them
+-- the number of statements that schedule a note, including those in all arms of an `if`
 abbrev mutual
   pub asks_in_stmt : Stmt → ℕ
   asks_in_stmt (ask es) = 1
@@ -19,8 +20,8 @@ abbrev mutual
   asks_in_arms (otherwise b) = asks_in b
   asks_in_arms (arm c b rest) = asks_in b + asks_in_arms rest
 
--- There are no more events than a score may have statements, and an instrument asks for no more notes than it may have
--- statements.
+-- There are at most as many events as a score may have statements, and an instrument schedules at most as
+-- many notes as it may have statements.
 pub record IsBounded (c : Composition) : Type 0 where
   pub events : length c.events ≤ most_events
   pub instruments : (z : ℤ) (body : Block) → c.instrument z ≡ Some body → asks_in body ≤ most_statements

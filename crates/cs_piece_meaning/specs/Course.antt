@@ -9,10 +9,11 @@ use Rattle.cs_tempo.specs.declared.plot.Event.{Event}
 use Rattle.cs_piece_meaning.specs.Moments.{Composition, Active, Moment, piece_with}
 use Rattle.cs_piece_meaning.specs.Starts.{all_done, all_waited}
 
--- before the first cycle: the code outside instruments has run once
+-- the state before the first cycle: the code outside instruments has run once
 abbrev pub outside_done : Composition → Note Plain
 outside_done c = init_block (plain (piece_with c [] [])) start c.outside (new_note (fresh (λ g. silence)))
 
+-- the moment before the first cycle
 abbrev pub opening : Composition → Moment
 opening c = record {
   shared = (outside_done c).world.shared;
@@ -23,17 +24,19 @@ opening c = record {
   not_started = 0;
 }
 
--- First those leave that have ended; then the events of the cycle are done, and those start that wait for it.
+-- The moment after the notes have left that have ended.
 abbrev pub still : ℕ → Moment → Moment
 still now m = record m { active = filter (λ a. nat_lt now a.ends) m.active }
 
+-- the events of a cycle, in order
 abbrev pub events_in : Composition → ℕ → List Event
 events_in c now = filter (λ e. e.cycle == now) c.events
 
+-- the moment in which the notes of a cycle are about to be performed
 abbrev pub begins : Composition → ℕ → Moment → Moment
 begins c now m = all_waited c now (all_done c (events_in c now) (still now m))
 
--- Then the notes are performed, one after another: each finds what those before it left.
+-- A note after it was performed in a cycle, with these shared resources.
 abbrev pub next : Composition → List ℕ → (Res → Wave) → Active → Active
 next c made shared a =
     record a {
@@ -41,17 +44,19 @@ next c made shared a =
           (moved_to (next_cycle shared a.note.world) a.note);
     }
 
+-- the notes after they were performed one after another, and the shared resources they leave
 abbrev pub serial : Composition → List ℕ → (Res → Wave) → List Active → List Active × (Res → Wave)
 serial c made shared [] = ([], shared)
 serial c made shared (a ∷ rest) =
     let now = next c made shared a in
     let others = serial c made now.note.world.shared rest in (now ∷ others.0, others.1)
 
+-- the moment after the notes of a cycle were performed
 abbrev pub performed : Composition → Moment → Moment
 performed c m =
     let r = serial c m.made m.shared m.active in record m { active = r.0; shared = r.1 }
 
--- Last those leave that were turned off.
+-- Last the notes leave that were turned off.
 abbrev pub turned_off : Moment → Moment
 turned_off m = record m { active = filter (λ a. not a.note.world.ended) m.active }
 
@@ -60,10 +65,10 @@ abbrev pub moment_at : Composition → ℕ → Moment
 moment_at c zero = opening c
 moment_at c (suc n) = turned_off (performed c (begins c n (moment_at c n)))
 
--- the notes of a cycle, as they have been performed in it
+-- the notes of a cycle after they were performed in it
 abbrev pub played_in : Composition → ℕ → List Active
 played_in c n = (performed c (begins c n (moment_at c n))).active
 
--- the moment after the last cycle, when the events have been done that stand at the very end
+-- the moment after the last cycle, when the events at the very end have been performed
 abbrev pub closing : Composition → Moment
 closing c = begins c c.cycles (moment_at c c.cycles)

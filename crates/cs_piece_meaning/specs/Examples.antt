@@ -1,5 +1,4 @@
--- Small performances that are worked out from the definitions: eight frames a second, four a control cycle, one
--- channel.
+-- Small performances for worked examples: eight frames a second, four frames a control cycle, one channel.
 use Rattle.std.specs.Prelude.{ℕ, ℤ, pos, ◌*◌, List, [], ◌∷◌, Option, Some, None, if◌then◌else◌}
 use Rattle.std.specs.Ordering.{int_eq}
 use Rattle.cs_typed.specs.TypedTree.{number, var, field, value, set, call, Block as Statements, no_stmt, andthen}
@@ -34,7 +33,7 @@ piece_of_two outside first second events cycles = record {
   cycles = cycles;
 }
 
--- a note of an instrument, by the cycle in which it begins, the number of cycles that it lasts, and its p4
+-- a note of an instrument: the cycle in which it begins, the number of cycles that it lasts, and its p4
 abbrev pub note : ℕ → ℕ → ℕ → ℤ → Event
 note instr at cycles p4 = record {
   cycle = at;

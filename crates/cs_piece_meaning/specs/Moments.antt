@@ -1,4 +1,4 @@
--- What is performed, and how it stands between two steps of a control cycle.
+-- The composition that is performed, and the state of the performance between two steps of a control cycle.
 use Rattle.std.specs.Prelude.{ℕ, ℤ, pos, ◌-◌, ◌==◌, Bool, not, List, ◌∷◌, ◌++◌, filter, int_lt, map, slice_index_or}
 use Rattle.std.specs.{Prelude.Option, List.list_any}
 use Rattle.cs_base.specs.{declared.resource.Res.Res, declared.spaces.Spaces.Spaces}
@@ -9,9 +9,9 @@ use Rattle.cs_sched.specs.{Times.Clock, Waiting.Waiting}
 use Rattle.cs_ugen.specs.Generators.{pace_of, the_generators}
 use Rattle.cs_tempo.specs.declared.plot.Event.{Event}
 
--- What two accepted texts ask for: the header, the zak spaces, the statements outside instruments, those of the
--- instrument of each number that there is, every table of the score as if none were made yet, the events in order, and
--- the length in control cycles.
+-- The content of two accepted texts: the header, the zak spaces, the statements outside instruments, and the
+-- statements of the instrument with each number; every table of the score as if none were made yet, the
+-- events in order, and the length in control cycles.
 pub record Composition : Type 0 where
   pub head : Header
   pub spaces : Spaces
@@ -21,8 +21,8 @@ pub record Composition : Type 0 where
   pub events : List Event
   pub cycles : ℕ
 
--- A note that plays: its instrument, how many notes were started before it, the cycle in which it has ended, its
--- p-fields, its statements, and what it has come to.
+-- A note that plays: its instrument, its age, which is the number of notes started before it, the cycle in
+-- which it has ended, its p-fields, its statements, and its state.
 pub record Active : Type 0 where
   pub number : ℤ
   pub age : ℕ
@@ -31,9 +31,9 @@ pub record Active : Type 0 where
   pub body : Block
   pub note : Note Plain
 
--- A moment of the performance: what notes share, the numbers of the tables that were made, the notes that play, in the
--- order in which they are performed, those that wait, and how many starts there were that started a note, and that
--- didn't.
+-- A moment of the performance: the shared resources, and the numbers of the tables that were made; the notes
+-- that play, in the order in which they are performed, and the notes that wait; the number of starts that
+-- started a note, and the number that didn't.
 pub record Moment : Type 0 where
   pub shared : Res → Wave
   pub made : List ℕ
@@ -42,15 +42,15 @@ pub record Moment : Type 0 where
   pub started : ℕ
   pub not_started : ℕ
 
--- a table as it stands when these numbers were made
+-- a table with the mark whether it is made, given the numbers of the tables that were made
 abbrev pub as_made : List ℕ → Table → Table
 as_made made t = record t { present = list_any (λ n. n == t.number) made }
 
--- a p-field, counted from 1; one that wasn't given is 0
+-- a p-field, counted from 1; an omitted one is 0
 abbrev pub field_of : List ℤ → ℕ → ℤ
 field_of fields k = slice_index_or fields (k - 1) (pos 0)
 
--- what a note with these p-fields finds when these tables were made
+-- the piece in which a note with these p-fields plays, given the numbers of the tables that were made
 abbrev pub piece_with : Composition → List ℕ → List ℤ → Piece
 piece_with c made fields = record {
   head = c.head;
@@ -60,14 +60,15 @@ piece_with c made fields = record {
   fields = field_of fields;
 }
 
+-- whether x is at most y
 abbrev pub at_most : ℤ → ℤ → Bool
 at_most x y = not (int_lt y x)
 
--- how time goes
+-- the time scale of a composition
 abbrev pub clock_of : Composition → Clock
 clock_of c = record { sr = c.head.sr; ksmps = c.head.ksmps; cycles = c.cycles }
 
--- a note takes its place behind those of lower instruments, and behind the older ones of its own
+-- a note is placed after the notes of lower instruments and after the older notes of its instrument
 abbrev pub placed : Active → List Active → List Active
 placed n active = filter (λ a. at_most a.number n.number) active ++ n
     ∷ filter (λ a. not (at_most a.number n.number)) active

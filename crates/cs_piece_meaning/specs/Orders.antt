@@ -1,22 +1,21 @@
--- In which order notes stand that play, and which notes a cycle has.
+-- The order of the notes that play, and the notes that a cycle has.
 use Rattle.std.specs.Prelude.{ℕ, ◌≡◌, ◌≢◌, ◌<◌, ◌≤◌, ◌<ℤ◌, ◌⊎◌, false, List, length, Some, All, AllPairs}
 use Rattle.cs_base.specs.Limits.{most_notes}
 use Rattle.cs_piece_meaning.specs.{Course.begins, Course.moment_at, Moments.Active, Moments.Composition, Moments.Moment}
 
--- Notes stand by the number of their instrument, and those of one number by age: the one that was started first stands
--- first.
+-- Notes are ordered by instrument number and, within one instrument, by start: earlier first.
 abbrev pub StandsBefore : Active → Active → Type 0
 StandsBefore a b = (a.number <ℤ b.number) ⊎ ((a.number ≡ b.number) × (a.age < b.age))
 
--- A note that plays in a cycle: its statements are those of its instrument, the cycle comes before the one in which it
--- has ended, and it wasn't turned off.
+-- A note that plays in a cycle: its statements belong to its instrument, the cycle comes before the note's
+-- end, and the note wasn't turned off.
 pub record PlaysIn (c : Composition) (cycle : ℕ) (a : Active) : Type 0 where
   pub body : c.instrument a.number ≡ Some a.body
   pub before_its_end : cycle < a.ends
   pub not_turned_off : a.note.world.ended ≡ false
 
--- The notes of a cycle: each earlier one stands before each later one, no two have one age, each was started before now
--- and plays in the cycle, and there are no more than there may be.
+-- The notes of a cycle: they are in order, no two have the same age, each was started before now and plays in
+-- the cycle, and there are at most as many as allowed.
 pub record AreInOrder (c : Composition) (cycle : ℕ) (m : Moment) : Type 0 where
   pub order : AllPairs StandsBefore m.active
   pub ages : AllPairs (λ (a b : Active). a.age ≢ b.age) m.active
@@ -28,7 +27,7 @@ pub record AreInOrder (c : Composition) (cycle : ℕ) (m : Moment) : Type 0 wher
 abbrev pub notes_in : Composition → ℕ → List Active
 notes_in c n = (begins c n (moment_at c n)).active
 
--- one note, before and after it was performed
+-- the same note, before and after it was performed
 pub record IsSameNote (a b : Active) : Type 0 where
   pub number : b.number ≡ a.number
   pub age : b.age ≡ a.age

@@ -1,10 +1,12 @@
--- Which notes that wait start in a cycle, as a rule between the moment before and the one after: no steps are counted.
+-- The waiting notes that start in a cycle, as a rule that relates the moment before to the moment after,
+-- without counting steps.
 use Rattle.std.specs.Prelude.{ℕ, ◌≡◌, List, [], ◌∷◌}
 use Rattle.cs_sched.specs.declared.due.Due.{Due}
 use Rattle.cs_piece_meaning.specs.{Moments.Composition, Moments.Moment, Starts.start_in, Starts.start_of, Starts.taken}
 
--- Where none waits for the cycle nothing changes. Else the first that was kept is taken out and started, and then the
--- rule holds of those that wait after that, with those that were kept meanwhile.
+-- If no note waits for the cycle, nothing changes. Otherwise the note that was added first is taken out and
+-- started, and then the rule holds for the notes that wait after that, including those that were added
+-- meanwhile.
 pub data AreStarted (c : Composition) (now : ℕ) : Moment → Moment → Type 0 where
   nothing_due : (m : Moment) → m.waiting.due now ≡ [] → AreStarted c now m m
   first_due : (m end : Moment) (d : Due) (rest : List Due) → m.waiting.due now ≡ d ∷ rest

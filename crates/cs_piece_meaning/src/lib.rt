@@ -1,15 +1,16 @@
-//! What a piece means: what is played in each control cycle, and what is heard. Definitions and laws, no code.
+//! The meaning of a piece: the notes that play in each control cycle, and the sound. Definitions and laws, no
+//! code.
 //!
-//! specs/Moments says what is performed and how it stands between two steps; specs/Starts how notes start, ask for
-//! others and tables are made; specs/Started which of those that wait start; specs/Course the steps of a cycle and
-//! all cycles one after another; specs/Counting how many starts there are, specs/Bounded which pieces have few;
-//! specs/Heard the frames; specs/Orders in which order the notes of a cycle stand; specs/Examples and
-//! specs/OrderExamples are small pieces.
+//! specs/Moments defines the composition and the state of a performance between two steps. specs/Starts
+//! defines how notes start and schedule others, and how tables are made; specs/Started which waiting notes
+//! start. specs/Course has the steps of a cycle, and all cycles one after another. specs/Counting counts
+//! starts, and specs/Bounded defines the pieces that have few. specs/Heard has the frames of the sound,
+//! specs/Orders the order of the notes of a cycle. specs/Examples and specs/OrderExamples are small pieces.
 //!
-//! The one contract: `performances_worked_by_hand`, by which the examples sound as they were reckoned by hand, and
-//! `notes_of_a_cycle_are_in_order`: the notes of a cycle stand by instrument number and then by age; from one cycle
-//! to the next a note stays unless it ends or was turned off, and no other comes than those that start. A definition
-//! here may be said in other words where these laws and those of the crates above still stand.
+//! Its contract has two parts. By `performances_worked_by_hand`, the examples sound as computed by hand. By
+//! `notes_of_a_cycle_are_in_order`, the notes of a cycle are ordered by instrument number and then by age;
+//! from one cycle to the next a note stays unless it ends or is turned off, and only notes that start are
+//! new. A definition may be rephrased if these laws, and the laws of the crates above, still hold.
 #![tactic(auto)]
 
 mod laws;

@@ -1,4 +1,4 @@
--- What numbers of tables and places reach, in a layout.
+-- The resources that numbers of tables and places reach, in a layout.
 use Rattle.std.proofs.Common.{◌≡◌, ◌<◌, ◌≤◌, ◌↔◌, ℕ, zero, suc, List, [], ◌∷◌, Option, Some, None, Bool, true, false}
 use Rattle.std.proofs.Common.{◌||◌, nat_le, nat_lt, refl, sym, ◌∙◌, ap, subst, arith, ⊎_elim, if◌then◌else◌}
 use Rattle.std.specs.List.{Contains, cons_option, filter, range_with_len}
@@ -39,7 +39,7 @@ table_is_live (a ∷ areas) n zero h =
 table_is_live (a ∷ areas) n (suc place) h =
     number_rest n (table_number a.res) (stock_of areas).live (table_is_live areas n place h)
 
--- what is named of tables, and of places
+-- the resources that are named: tables, and places
 pub table_named : (stock : Stock) (r : Reach) (g : Res) → Contains (tables_within stock r) g
     → (n : ℕ) × Contains stock.live n × (reaches r n ≡ true) × (res.Table n ≡ g)
 table_named stock r g h =
@@ -65,7 +65,7 @@ named_place stock s r n l e =
     (contains_filter (reaches r) (range_with_len 0 (places_of stock.spaces s)) n
     (contains_range (places_of stock.spaces s) n l) e)
 
--- a literal number reaches itself alone
+-- a literal number reaches only itself
 pub literal_reaches : (n : ℕ) → reaches (reach.Span n n) n ≡ true
 literal_reaches n = grind (arith, nat_tests)
 
@@ -73,7 +73,7 @@ pub literal_alone : (n m : ℕ) → reaches (reach.Span n n) m ≡ true → m �
 literal_alone n m h =
     let b = and_parts (nat_le n m) (nat_le m n) h in let c = b.0 in let d = b.1 in grind (arith, nat_tests)
 
--- a span reaches what lies in it
+-- a span reaches exactly the numbers within it
 pub span_within : (first last n : ℕ) → reaches (reach.Span first last) n ≡ true → (first ≤ n) × (n ≤ last)
 span_within first last n h =
     let b = and_parts (nat_le first n) (nat_le n last) h in let c = b.0 in let d =
@@ -83,7 +83,7 @@ pub within_span : (first last n : ℕ) → first ≤ n → n ≤ last → reache
 within_span first last n l m =
     and_from (nat_le first n) (nat_le n last) (grind (arith, nat_tests)) (grind (arith, nat_tests))
 
--- what is written is used
+-- a written resource is also a used one
 pub act_written_is_used : (stock : Stock) (a : Act) (r : Res) → Contains (act_writes stock a) r
     → Contains (act_uses stock a) r
 act_written_is_used stock (act.Save g) r h = h
@@ -115,7 +115,7 @@ one_only r o h = or_none (same_res r o) h
 only_one : (r o : Res) → same_res r o ≡ true → is_among (o ∷ []) r ≡ true
 only_one r o h = or_left (same_res r o) false h
 
--- The test of an area's resource is that it is among those that are named.
+-- An area's resource passes the test if and only if it is among the named resources.
 module _ (areas : List Area) (place : ℕ) (g : Res) (h : HasPlace areas g place) where
   abbrev pub stock : Stock
   stock = stock_of areas
@@ -153,7 +153,7 @@ module _ (areas : List Area) (place : ℕ) (g : Res) (h : HasPlace areas g place
       (λ c. contains_among (resources stock n) g (covered_is_named n g refl c))
       (λ c. named_is_covered n g (among_contains (resources stock n) g c))
 
--- ---- places of what is named by numbers
+-- ---- the places of resources named by numbers
 
 module _ (areas : List Area) where
   pub table_places : (r : Reach) (place : ℕ) → Contains (places_holding areas (tables_within (stock_of areas) r)) place

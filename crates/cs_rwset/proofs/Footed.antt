@@ -1,4 +1,4 @@
--- Footprints over zones are those of codes.
+-- Footprints over zones are the footprints of codes.
 use Rattle.std.proofs.Common.{◌≡◌, ◌<◌, ℕ, suc, Bool, true, false, List, get_or, length, slice_get, Option, sym, ◌∙◌}
 use Rattle.std.proofs.Common.{◌≤◌, None, ap, subst, arith}
 use Rattle.std.proofs.lemmas.{Bool.Decides.nat_tests, List.length-map, List.Kept.IsStrictlyIncreasing-filter}
@@ -15,7 +15,7 @@ use Rattle.cs_rwset.proofs.{Placed.range_ascends, Placed.range_contains, ZonesCo
 use Rattle.cs_rwset.proofs.Placed.{among_contains, contains_among, contains_filter, contains_range, filter_contains}
 use Rattle.cs_rwset.proofs.ZonesLaid.{heads_under, within_limits, zone_marks}
 
--- marked places, by the marks
+-- a place whose mark is set is among the marked places
 contains_marked : (marks : List Bool) (p : ℕ) → p < length marks → get_or marks p false ≡ true
     → Contains (marked marks) p
 contains_marked marks p low h =
@@ -33,7 +33,7 @@ marked_ascends marks =
     IsStrictlyIncreasing-filter (λ q. get_or marks q false) (range_with_len 0 (length marks))
     (range_ascends (length marks))
 
--- as many marks as areas
+-- there are as many marks as areas
 pub marks_many : (areas : List Area) (perf : Code) (m : Marks) → AreMarksOf areas perf m → AreMarks areas m
 marks_many areas perf m is = (
   ap length is.uses ∙ length-map areas (λ a. is_among (ops_use (stock_of areas) perf.ops) a.res),
@@ -111,7 +111,7 @@ few_areas areas none = let few = (within_limits areas none).0 in grind (arith, n
 pub few_marks : (areas : List Area) (m : Marks) → length areas ≤ most_resources → AreMarks areas m → AreFew m
 few_marks areas m few many = let u = many.0 in let w = many.1 in (omega (arith, u, few), omega (arith, w, few))
 
--- ---- what is found of a code
+-- ---- the footprint of a code
 
 module _ (areas : List Area) (laid : IsLaid areas) (begins : List Bool) (outside : Marks) (each : List Marks)
     (are : AreBegins (length areas) outside each begins) where

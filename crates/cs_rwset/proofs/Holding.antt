@@ -1,4 +1,4 @@
--- Which ops a footprint's places are of, and which cells they cover.
+-- The ops to which the places of a footprint belong, and the cells that the places cover.
 use Rattle.std.proofs.Common.{◌≡◌, ℕ, zero, suc, List, [], ◌∷◌, slice_get, Option, Some, None, true, refl, sym, ◌∙◌, ap}
 use Rattle.std.proofs.Common.{subst, ⊎_elim}
 use Rattle.std.specs.List.{Contains, flat_map}
@@ -11,7 +11,7 @@ use Rattle.cs_rwset.specs.Footprints.{places_holding}
 use Rattle.cs_rwset.proofs.Placed.{exact_places, places_exact, contains_none, contains_first, contains_rest}
 use Rattle.cs_rwset.proofs.Placed.{contains_cases}
 
--- elements of what a function makes of each element
+-- the elements of a flattened list
 module _ {X Y : Type 0} (f : X → List Y) where
   pub of_each : (xs : List X) (x : X) (y : Y) → Contains xs x → Contains (f x) y → Contains (flat_map f xs) y
   of_each [] x y h k = absurd (contains_none x h)
@@ -26,7 +26,7 @@ module _ {X Y : Type 0} (f : X → List Y) where
       (λ t. let later = each_of xs y t in (later.0, contains_rest z later.0 xs later.1, later.2))
       (Contains-append_cases (f z) (flat_map f xs) y h)
 
--- The places of what a function of ops lists: those of what it lists for one of the ops.
+-- The places of all ops' resources are the places of some op's resources.
 module _ (areas : List Area) (f : Op → List Res) (ops : List Op) (place : ℕ) where
   pub places_of_each : Contains (places_holding areas (flat_map f ops)) place
       → (op : Op) × (r : Res) × Contains ops op × Contains (f op) r × HasPlace areas r place
@@ -39,7 +39,7 @@ module _ (areas : List Area) (f : Op → List Res) (ops : List Op) (place : ℕ)
       → Contains (places_holding areas (flat_map f ops)) place
   each_placed h = exact_places areas (flat_map f ops) place h.1 (of_each f ops h.0 h.1 h.2 h.3) h.4
 
--- An address is covered by listed places exactly where it lies in the area of one of them.
+-- An address is covered by a list of places if and only if it is in the area at one of them.
 pub none_in : (a : ℕ) → in_area None a ≡ true → ⊥
 none_in a h = cc
 
@@ -65,7 +65,7 @@ at_covers areas (p ∷ places) place a h k =
     (λ later. or_right (in_area (slice_get areas p) a) (covers areas places a) (at_covers areas places place a later k))
     (contains_cases p place places h)
 
--- an area that is in the layout stands at a place, and what stands at one is in it
+-- an area of the layout is at some place, and the area at a place is in the layout
 placed : (areas : List Area) (area : Area) → Contains areas area → (place : ℕ) × (slice_get areas place ≡ Some area)
 placed areas area h = (h.0, slice_get-get_or areas h.0 area h.1 ∙ ap Some h.2)
 
@@ -78,7 +78,7 @@ there (x ∷ areas) (suc place) area e = contains_rest x area areas (there areas
 res_there : (o : Option Area) (x y : Area) (r : Res) → o ≡ Some x → o ≡ Some y → x.res ≡ r → r ≡ y.res
 res_there o x y r e f g = cc
 
--- The places of some resources cover exactly the cells of the areas whose resource is one of them.
+-- The places of resources cover exactly the cells of the areas whose resource is in the list.
 pub holding_covers : (areas : List Area) (rs : List Res) (area : Area) (a : ℕ) → Contains areas area
     → Contains rs area.res → in_area (Some area) a ≡ true → covers areas (places_holding areas rs) a ≡ true
 holding_covers areas rs area a here of lies =

@@ -1,4 +1,4 @@
--- Marks that are set one by one.
+-- Setting marks one by one.
 use Rattle.std.proofs.Common.{◌≡◌, ◌<◌, ◌≤◌, ◌+◌, ◌++◌, ℕ, zero, suc, List, [], ◌∷◌, length, get_or, set, take, drop}
 use Rattle.std.proofs.Common.{slice_get, replicate, Some, Bool, true, false, ◌||◌, refl, sym, ◌∙◌, ap, subst, arith}
 use Rattle.std.specs.List.{filter, range_with_len}
@@ -25,7 +25,7 @@ pub or_not : (p q : Bool) → q ≡ false → p ≡ (p || q)
 or_not true q e = refl
 or_not false q e = sym e
 
--- tests that agree on each area mark the same
+-- tests that agree on each area produce the same marks
 pub same_marks : (P Q : Res → Bool) (areas : List Area)
     → ((place : ℕ) (a : Area) → slice_get areas place ≡ Some a → P a.res ≡ Q a.res)
     → marked_by P areas ≡ marked_by Q areas
@@ -36,7 +36,7 @@ passes_of : (Q : Res → Bool) (b : Bool) (x a : Area) → Some x ≡ Some a →
 passes_of Q b x a e q = cc
 
 module _ (P Q : Res → Bool) where
-  -- a mark that is set is that of the one area that passes another test
+  -- setting one mark, if only one area passes the second test
   pub one_mark : (areas : List Area) (place : ℕ) → place < length areas
       → ((a : Area) → slice_get areas place ≡ Some a → Q a.res ≡ true)
       → ((k : ℕ) (a : Area) → (k ≡ place → ⊥) → slice_get areas k ≡ Some a → Q a.res ≡ false)
@@ -49,7 +49,7 @@ module _ (P Q : Res → Bool) where
       λ i. or_not (P a.res) (Q a.res) (others 0 a (λ s. omega (arith, s)) refl) i
       ∷ one_mark areas place (omega arith) here (λ k b n e. others (suc k) b (λ s. n (omega (arith, s))) e) i
 
-  -- marks by both tests in front, and by the first alone behind
+  -- the first n areas are marked by either test, the remaining ones only by the first
   abbrev pub half : ℕ → List Area → List Bool
   half zero areas = marked_by P areas
   half (suc n) [] = []
@@ -67,7 +67,7 @@ module _ (P Q : Res → Bool) where
   half_kept zero (x ∷ areas) a e q = λ i. or_not (P x.res) (Q x.res) (passes_of Q false x a e q) i ∷ marked_by P areas
   half_kept (suc n) (x ∷ areas) a e q = λ i. (P x.res || Q x.res) ∷ half_kept n areas a e q i
 
-  -- one more area is looked at
+  -- one more area is tested
   pub half_more : (n : ℕ) (areas : List Area) (a : Area) → slice_get areas n ≡ Some a → Q a.res ≡ true
       → set (half n areas) n true ≡ half (n + 1) areas
   half_more n areas a e q = let on : suc n ≡ n + 1 = omega arith in half_set n areas a e q ∙ ap (λ k. half k areas) on
@@ -82,7 +82,7 @@ module _ (P Q : Res → Bool) where
   half_all zero (a ∷ areas) l = absurd (omega arith)
   half_all (suc n) (a ∷ areas) l = λ i. (P a.res || Q a.res) ∷ half_all n areas (omega arith) i
 
--- the mark of a resource that has an area, and of one that has none
+-- the mark of a resource that has an area, and of a resource that has none
 pub mark_placed : (areas : List Area) (g : Res) (place : ℕ) (P : Res → Bool) → IsLaid areas → HasPlace areas g place
     → set (marked_by P areas) place true ≡ marked_by (λ r. P r || same_res r g) areas
 mark_placed areas g place P laid h =
@@ -97,7 +97,7 @@ mark_unplaced areas g P none =
     same_marks P (λ r. P r || same_res r g) areas (λ k a e. or_not (P a.res) (same_res a.res g)
     (false_from_ne_true (same_res a.res g) (λ t. none k (a, e, same_res_is a.res g t))))
 
--- marks of more resources
+-- the marks of more resources
 pub more_marks : (areas : List Area) (rs xs : List Res) (Q : Res → Bool)
     → ((place : ℕ) (a : Area) → slice_get areas place ≡ Some a → Q a.res ≡ is_among xs a.res)
     → marked_by (λ r. is_among rs r || Q r) areas ≡ marks_of areas (rs ++ xs)
@@ -105,23 +105,23 @@ more_marks areas rs xs Q h =
     same_marks (λ r. is_among rs r || Q r) (is_among (rs ++ xs)) areas
     (λ place a e. ap (λ b. is_among rs a.res || b) (h place a e) ∙ sym (list_any-append (same_res a.res) rs xs))
 
--- what is touched marks the areas of its resources
+-- a touch marks the areas of its resources
 pub touch_marks : (areas : List Area) (rs : List Res) (spaces : Spaces) (t : Touch) → spaces ≡ (stock_of areas).spaces
     → marked_by (λ r. is_among rs r || covers spaces t r) areas ≡ marks_of areas (rs ++ resources (stock_of areas) t)
 touch_marks areas rs spaces t sized =
     more_marks areas rs (resources (stock_of areas) t) (covers spaces t)
     (λ place a e. ap (λ s. covers s t a.res) sized ∙ covers_named areas place a.res (a, e, refl) t)
 
--- resources that are named in another order, or again
+-- resources listed in another order, or repeatedly, have the same marks
 pub alike_marks : (areas : List Area) (xs ys : List Res) → NameTheSame xs ys → marks_of areas xs ≡ marks_of areas ys
 alike_marks areas xs ys same = same_marks (is_among xs) (is_among ys) areas (λ k a e. among_alike xs ys same a.res)
 
--- before the first op nothing is marked
+-- before the first op no area is marked
 pub none_marked : (areas : List Area) (n : ℕ) → n ≡ length areas → replicate n false ≡ marks_of areas []
 none_marked [] n e = ap (λ k. replicate k false) e
 none_marked (a ∷ areas) n e = ap (λ k. replicate k false) e ∙ (λ i. false ∷ none_marked areas (length areas) refl i)
 
--- marks that stand in the place of as many marks
+-- marks that replace the same number of marks
 take_front : (xs ys : List Bool) → take (length xs) (xs ++ ys) ≡ xs
 take_front [] [] = refl
 take_front [] (y ∷ ys) = refl
@@ -135,7 +135,7 @@ rewritten areas rs more n old new was long is =
     let e : n ≡ length new = omega (arith, a, b, long) in
     ap (λ k. take k (new ++ drop (length new) old)) e ∙ take_front new (drop (length new) old) ∙ is
 
--- what is touched by one more
+-- one more touch
 pub touch_step : (areas : List Area) (rs : List Res) (touches : List Touch) (i : ℕ) (d : Touch) → i < length touches
     → marks_of areas
     ((rs ++ named (stock_of areas) (take i touches)) ++ resources (stock_of areas) (get_or touches i d))
@@ -159,7 +159,7 @@ not_counted areas s i a e p =
     count_by_more_no (λ b. is_place s b.res) areas i a (slice_get_within areas i a e)
     (ap (λ b. is_place s b.res) (get_or_from_slice_get areas i a a e) ∙ p)
 
--- the places below one more
+-- the places below n + 1
 pub range_more : (a n j : ℕ) → a + n ≡ j → range_with_len a (suc n) ≡ range_with_len a n ++ j ∷ []
 range_more a zero j e = let same : a ≡ j = omega arith in ap (λ k. k ∷ []) same
 range_more a (suc n) j e = ap (λ l. a ∷ l) (range_more (a + 1) n j (omega arith))
@@ -186,7 +186,7 @@ marked_same marks n e =
     sym (marked_next marks n ∙ ap (λ l. marked_below marks n ++ l) (cond-false (get_or marks n false) (n ∷ []) [] e)
     ∙ append-nil (marked_below marks n))
 
--- the marked places are those of the resources
+-- a place is marked if and only if its area belongs to one of the resources
 pub mark_at : (areas : List Area) (rs : List Res) (place : ℕ)
     → get_or (marks_of areas rs) place false ≡ is_of_one rs (slice_get areas place)
 mark_at [] rs place = refl

@@ -1,4 +1,4 @@
--- Which places are listed, of the areas of some resources.
+-- The places of the areas of a list of resources.
 use Rattle.std.proofs.Common.{◌≡◌, ◌<◌, ◌+◌, ◌⊎◌, ℕ, zero, suc, List, [], ◌∷◌, map, length, get_or, slice_get, Option}
 use Rattle.std.proofs.Common.{Some, None, Bool, true, false, refl, sym, ap, subst, arith, ⊎_elim, inl, inr}
 use Rattle.std.specs.{List.Contains, List.filter, List.range_with_len, List.Sorted.IsStrictlyIncreasing}
@@ -11,7 +11,7 @@ use Rattle.cs_cells.specs.{Areas.HasPlace, declared.footprint.Area.Area}
 use Rattle.cs_ir.specs.Resources.{NameTheSame}
 use Rattle.cs_rwset.specs.Footprints.{is_among, is_of_one, places_holding}
 
--- elements of a list that is longer by one
+-- the elements of a list that is longer by one
 pub contains_first : {X : Type 0} (x : X) (xs : List X) → Contains (x ∷ xs) x
 contains_first x xs = (zero, omega arith, refl)
 
@@ -28,7 +28,7 @@ contains_cases {X} x y xs h = at h.0 h.1 h.2
 pub contains_none : {X : Type 0} (y : X) → Contains [] y → ⊥
 contains_none y h = let l = h.1 in omega arith
 
--- resources that are among others, by equality
+-- membership tests of resources agree with membership
 pub among_contains : (rs : List Res) (r : Res) → is_among rs r ≡ true → Contains rs r
 among_contains [] r h = absurd cc
 among_contains (x ∷ rs) r h =
@@ -41,19 +41,19 @@ contains_among (x ∷ rs) r h =
     ⊎_elim (λ e. or_left (same_res r x) (is_among rs r) (subst (λ y. same_res r y ≡ true) (sym e) (same_res_here r)))
     (λ t. or_right (same_res r x) (is_among rs r) (contains_among rs r t)) (contains_cases x r rs h)
 
--- two tests that pass for one another are the same
+-- two tests are equal if each implies the other
 pub same_tests : (b c : Bool) → (b ≡ true → c ≡ true) → (c ≡ true → b ≡ true) → b ≡ c
 same_tests true c to from = sym (to refl)
 same_tests false true to from = from refl
 same_tests false false to from = refl
 
--- a resource is among those of one list as of another that names the same
+-- lists that name the same resources pass the same membership tests
 pub among_alike : (xs ys : List Res) → NameTheSame xs ys → (r : Res) → is_among xs r ≡ is_among ys r
 among_alike xs ys same r =
     same_tests (is_among xs r) (is_among ys r) (λ h. contains_among ys r ((same r).0 (among_contains xs r h)))
     (λ h. contains_among xs r ((same r).1 (among_contains ys r h)))
 
--- elements that pass a test
+-- the elements that pass a test
 module _ {X : Type 0} (test : X → Bool) where
   pub filter_contains : (xs : List X) (x : X) → Contains (filter test xs) x → Contains xs x × (test x ≡ true)
   filter_contains [] x h = absurd (contains_none x h)
@@ -76,7 +76,7 @@ module _ {X : Type 0} (test : X → Bool) where
       (λ f. ⊎_elim (λ same. absurd (let g : test x ≡ false = subst (λ z. test z ≡ false) same f in cc))
       (λ later. contains_filter xs x later e) (contains_cases y x xs h))
 
--- elements of a list that a function makes
+-- the elements of a mapped list
 pub map_contains : {X Y : Type 0} (f : X → Y) (xs : List X) (y : Y) → Contains (map f xs) y
     → (x : X) × Contains xs x × (f x ≡ y)
 map_contains f [] y h = absurd (contains_none y h)
@@ -113,7 +113,7 @@ pub one_of_is : (rs : List Res) (o : Option Area) → is_of_one rs o ≡ true
 one_of_is rs None h = absurd cc
 one_of_is rs (Some a) h = (a, refl, h)
 
--- a place is listed exactly where its area is of one of the resources
+-- a place is listed if and only if its area belongs to one of the resources
 pub places_exact : (areas : List Area) (rs : List Res) (place : ℕ) → Contains (places_holding areas rs) place
     → (r : Res) × Contains rs r × HasPlace areas r place
 places_exact areas rs place h =
@@ -137,14 +137,14 @@ pub places_within_areas : (areas : List Area) (rs : List Res) (place : ℕ) → 
     → place < length areas
 places_within_areas areas rs place h = let e = places_exact areas rs place h in slice_get_within areas place e.2.0 e.2.1
 
--- what is placed of some resources is placed of more
+-- places of resources are also places of a larger list of resources
 pub places_of_more : (areas : List Area) (rs more : List Res) (place : ℕ)
     → ((r : Res) → Contains rs r → Contains more r) → Contains (places_holding areas rs) place
     → Contains (places_holding areas more) place
 places_of_more areas rs more place up h =
     let e = places_exact areas rs place h in exact_places areas more place e.0 (up e.0 e.1) e.2
 
--- resources that are named in another order, or more often, have the same places
+-- resources listed in another order, or repeatedly, have the same places
 pub places_alike : (areas : List Area) (xs ys : List Res) → NameTheSame xs ys
     → places_holding areas xs ≡ places_holding areas ys
 places_alike areas xs ys same =

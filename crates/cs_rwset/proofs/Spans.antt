@@ -18,7 +18,7 @@ use Rattle.cs_words.specs.declared.catalogue.Space.{Space}
 use Rattle.cs_ir.specs.declared.touches.Touch.TheVariants as touch
 use Rattle.cs_words.specs.declared.catalogue.Space.TheVariants as space
 
--- marks in whose place so many stand that are set, from one place up to another
+-- marks of which the ones from one place up to another are replaced by n set marks
 abbrev pub set_from : ℕ → ℕ → ℕ → List Bool → List Bool
 set_from from n to marks = take from marks ++ (replicate n true ++ drop to marks)
 
@@ -52,7 +52,7 @@ marked_run P Q areas run is =
     run_marks P Q areas run.from (run.to - run.from) run.to (omega (arith, is.ordered)) is.within is.inside is.before
     is.behind
 
--- The places of a zak space whose areas lie in the order of their numbers.
+-- The places of a zak space whose areas are in the order of their numbers.
 module _ (areas : List Area) (s : Space) (begin : ℕ) (laid : IsLaid areas)
     (order : AreInOrder areas s (places_of (stock_of areas).spaces s) begin) (r : Reach) where
   abbrev pub count : ℕ
@@ -61,7 +61,7 @@ module _ (areas : List Area) (s : Space) (begin : ℕ) (laid : IsLaid areas)
   abbrev pub test : Res → Bool
   test = covers (stock_of areas).spaces (touch.Places s r)
 
-  -- an area that is covered stands where its number says
+  -- an area that is covered is at the place that its number gives
   covered_at : (k : ℕ) (a : Area) → slice_get areas k ≡ Some a → test a.res ≡ true
       → (n : ℕ) × (n < count) × (reaches r n ≡ true) × (k ≡ begin + n)
   covered_at k a g c =
@@ -109,7 +109,7 @@ module _ (areas : List Area) (s : Space) (begin : ℕ) (laid : IsLaid areas)
           let t = covered_at k a g c in
           let w = within t.0 t.1 t.2 in let w1 = w.1 in let e = t.3 in omega (arith, w1, e, l, to)
 
--- the same, of a space that is counted
+-- the run of the places of a zak space, given the number of its places
 pub placed_is : (areas : List Area) (s : Space) (spaces : Spaces) (count begin : ℕ) (r : Reach) → IsLaid areas
     → spaces ≡ (stock_of areas).spaces → count ≡ places_of spaces s → AreInOrder areas s count begin
     → (numbers run : Run) → ((n : ℕ) → n < count → reaches r n ≡ true → (numbers.from ≤ n) × (n < numbers.to))
@@ -122,7 +122,7 @@ placed_is areas s spaces count begin r laid sized counted order numbers run with
     (placed_run areas s begin laid (subst (λ m. AreInOrder areas s m begin) same order) r numbers run
     (λ n l. within n (omega (arith, l, same))) all (omega (arith, few, same)) ordered from to)
 
--- one more place stands in order
+-- one more place is in order
 pub one_more : (areas : List Area) (s : Space) (begin m place : ℕ) (g : Res) → g ≡ zak_place s m
     → AreInOrder areas s m begin → HasPlace areas g place → place ≡ begin + m → AreInOrder areas s (m + 1) begin
 one_more areas s begin m place g is all here e = record {
@@ -133,7 +133,8 @@ one_more areas s begin m place g is all here e = record {
       (subst (λ k. HasPlace areas (zak_place s m) k) e (subst (λ r. HasPlace areas r place) is here))) (cases_lt n m);
 }
 
--- Places that don't lie in the order of their numbers begin nowhere: one of them has no area, or has it elsewhere.
+-- If places aren't in the order of their numbers, no run begins anywhere: one of them has no area, or has it
+-- elsewhere.
 module _ (areas : List Area) (s : Space) (m n : ℕ) (g : Res) (is : g ≡ zak_place s n) (low : n < m) where
   pub unplaced : ((place : ℕ) → ¬ (HasPlace areas g place)) → (begin : ℕ) → ¬ (AreInOrder areas s m begin)
   unplaced none begin order = none (begin + n) (subst (λ r. HasPlace areas r (begin + n)) (sym is) (order.each n low))
@@ -150,7 +151,7 @@ area_at : (areas : List Area) (k : ℕ) → k < length areas → (a : Area) × (
 area_at areas k l =
     ⊎_elim (λ h. (h.0, h.2)) (λ h. absurd (let past = h.0 in omega (arith, l, past))) (slice_get_cases areas k).1
 
--- an area that is sought is here, or it isn't and the search goes on
+-- the area at a place is the one searched for, or the search goes on
 same_test : (x y : Bool) → beq x y ≡ true → x ≡ y
 same_test true true e = refl
 same_test true false e = sym e
@@ -179,7 +180,7 @@ sought_later areas test wanted found from place here before at is other k a ther
     let same : a ≡ here = cc in ap (λ (x : Area). test x.res) same ∙ sym is ∙ other_test found wanted other)
     (cases_lt k place)
 
--- areas that pass a test are in no run where one between them doesn't
+-- areas that pass a test form no run if an area between them fails it
 pub no_run : (areas : List Area) (test : Res → Bool) (from to next : ℕ)
     → ((a : Area) → slice_get areas from ≡ Some a → test a.res ≡ true)
     → ((a : Area) → slice_get areas to ≡ Some a → test a.res ≡ false)
@@ -195,12 +196,12 @@ no_run areas test from to next first gap again ordered onward l run is =
     (cases_lt next run.to) in
     true≢false (sym (is.inside to t.0 t.1 (omega (arith, low, ordered)) (omega (arith, high, onward))) ∙ gap t.0 t.1)
 
--- what is so of either space is so of each
+-- a property of both spaces holds for each
 pub of_each : (P : Space → Type 0) → P space.Control → P space.Audio → (s : Space) → P s
 of_each P c a space.Control = c
 of_each P c a space.Audio = a
 
--- where the places of a zak space begin
+-- the place of a zak space's first area
 pub begins_there : (areas : List Area) (runs : Runs) (s : Space) (begin : ℕ) → AreRuns areas runs
     → Some begin ≡ begin_of runs s → AreInOrder areas s (places_of runs.spaces s) begin
 begins_there areas runs s begin are e =

@@ -1,4 +1,4 @@
--- One area more, of zones and of marks.
+-- One more area, for zones and for marks.
 use Rattle.std.proofs.Common.{◌≡◌, ◌+◌, ◌-◌, ◌<◌, ◌≤◌, ◌++◌, ◌⊎◌, inl, inr, ⊎_elim, ℕ, zero, suc, Bool, true, false}
 use Rattle.std.proofs.Common.{List, min, slice_get, Some, [], ◌∷◌, drop, get_or, length, take, if◌then◌else◌, refl, sym}
 use Rattle.std.proofs.Common.{◌∙◌, ap, subst, arith}
@@ -11,7 +11,7 @@ use Rattle.std.proofs.lemmas.List.Elements.{All-cons, All-nil, All-push}
 use Rattle.cs_rwset.specs.declared.code.Marks.{Marks}
 use Rattle.cs_rwset.specs.inner.Zoning.{AreBegins, Stay, heads, joined, zones_from}
 
--- the zones from one on, at an area
+-- the zones from an area on
 zones_at : (areas : List Area) (begins : List Bool) (p : ℕ) (zone a : Area) → a ≡ get_or areas p a → p < length areas
     → p < length begins → zones_from zone (drop p areas) (drop p begins)
     ≡ (if get_or begins p false then zone ∷ zones_from a (drop (p + 1) areas) (drop (p + 1) begins)
@@ -39,7 +39,7 @@ zone_goes_on areas begins p zone a done all read low here still h =
     ∙ ap (λ b. if b then zone ∷ zones_from a (drop (p + 1) areas) (drop (p + 1) begins)
     else zones_from (joined zone a) (drop (p + 1) areas) (drop (p + 1) begins)) still)) ∙ h
 
--- the marks at an area
+-- the marks from an area on
 heads_at : (marks begins : List Bool) (p : ℕ) → p < length marks → p < length begins
     → heads (drop p marks) (drop p begins)
     ≡ (if get_or begins p false then get_or marks p false ∷ heads (drop (p + 1) marks) (drop (p + 1) begins)
@@ -79,7 +79,7 @@ heads_done marks begins p done all (inr far) h =
 
 -- ---- where zones begin
 
--- one more place is told of
+-- one more area is decided
 pub begins_more : (outside : Marks) (each : List Marks) (begins new : List Bool) (place : ℕ) (b : Bool)
     → AreBegins place outside each begins → new ≡ begins ++ b ∷ [] → (place ≡ 0 → b ≡ true)
     → (b ≡ false → Stay outside (place - 1) place)
@@ -113,7 +113,7 @@ begins_more outside each begins new place b is e first stays all = record {
     at_first (suc n) is none =
         get_or_append_left begins (b ∷ []) false 0 (let m = is.long in omega (arith, m)) ∙ is.first (omega arith)
 
--- ---- lists item by item
+-- ---- lists, item by item
 
 pub all_more : {X : Type 0} (P : X → Type 0) (xs : List X) (i : ℕ) (x : X) → All P (take i xs) → x ≡ get_or xs i x
     → i < length xs → P x → All P (take (i + 1) xs)
@@ -134,7 +134,7 @@ zip_more R xs i x ys zs y h here within r e =
     subst (AllZip R (take (i + 1) xs)) (sym e) (subst (λ l. AllZip R l (ys ++ y ∷ [])) (sym (take_more xs i x within))
     (zip_last R (take i xs) ys (get_or xs i x) y h (subst (λ z. R z y) here r)))
 
--- two relations, one after the other
+-- two relations, composed
 pub zip_both : {X Y Z : Type 0} (R : X → Y → Type 0) (S : Y → Z → Type 0) (T : X → Z → Type 0)
     → ((x : X) (y : Y) (z : Z) → R x y → S y z → T x z)
     → (xs : List X) (ys : List Y) (zs : List Z) → AllZip R xs ys → AllZip S ys zs → AllZip T xs zs
@@ -145,7 +145,7 @@ zip_both R S T f (x ∷ xs) [] zs r s = absurd r
 zip_both R S T f (x ∷ xs) (y ∷ ys) [] r s = absurd s
 zip_both R S T f (x ∷ xs) (y ∷ ys) (z ∷ zs) r s = (f x y z r.0 s.0, zip_both R S T f xs ys zs r.1 s.1)
 
--- what follows from a relation
+-- a relation between two lists implies another relation
 pub zip_so : {X Y : Type 0} (P : X → Type 0) (S T : X → Y → Type 0) → ((x : X) (y : Y) → P x → S x y → T x y)
     → (xs : List X) (ys : List Y) → All P xs → AllZip S xs ys → AllZip T xs ys
 zip_so P S T f [] [] all s = s
@@ -156,7 +156,7 @@ zip_so P S T f (x ∷ xs) (y ∷ ys) all s = (
   zip_so P S T f xs ys (λ k d low. all (suc k) d (omega (arith, low))) s.1,
 )
 
--- what follows from a relation to something
+-- a relation between two lists implies a property of the second
 pub zip_all : {X Y : Type 0} (R : X → Y → Type 0) (P : Y → Type 0) → ((x : X) (y : Y) → R x y → P y)
     → (xs : List X) (ys : List Y) → AllZip R xs ys → All P ys
 zip_all R P f [] [] h = All-nil P

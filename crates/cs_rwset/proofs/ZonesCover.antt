@@ -1,4 +1,4 @@
--- Zones cover what the areas cover of which they are made.
+-- Zones cover the same cells as their areas.
 use Rattle.std.proofs.Common.{◌≡◌, ◌+◌, ◌<◌, ◌&&◌, ◌||◌, ℕ, zero, suc, Bool, true, false, List, [], ◌∷◌, get_or, length}
 use Rattle.std.proofs.Common.{nat_le, nat_lt, slice_get, take, Some, if◌then◌else◌, refl, sym, ◌∙◌, ap, subst, arith}
 use Rattle.std.proofs.Common.{⊎_elim}
@@ -11,7 +11,7 @@ use Rattle.cs_rwset.specs.inner.Zoning.{AreKept, heads, joined, zones_from, zone
 use Rattle.cs_rwset.proofs.Holding.{at_covers, covered_at, none_in}
 use Rattle.cs_rwset.proofs.Placed.{contains_filter, contains_range, filter_contains, same_tests}
 
--- ---- areas, one behind the other
+-- ---- areas, one after another
 
 -- areas follow one another from an address on
 abbrev pub LaidFrom : ℕ → List Area → Type 0
@@ -36,7 +36,7 @@ laid_at_zero areas laid = laid_from 0 areas (λ p x at.
 
 -- ---- marks and cells
 
--- an address lies in an area that is marked
+-- an address is in an area that is marked
 module _ (a : ℕ) where
   abbrev pub lies : List Bool → List Area → Bool
   lies [] areas = false
@@ -105,7 +105,7 @@ module _ (a : ℕ) where
   shared_out true true j r = refl
   shared_out m i j r = refl
 
-  -- what is marked of zones is what is marked of areas, where no mark changes within a zone
+  -- marked zones cover the same cells as marked areas, if marks don't change within a zone
   zone_lies : (m : Bool) (marks begins : List Bool) (z : Area) (areas : List Area)
       → length marks ≡ length areas → length begins ≡ length areas → LaidFrom (z.first + z.length) areas
       → ((p : ℕ) → p < length marks → get_or begins p false ≡ false → get_or (m ∷ marks) p false ≡ get_or marks p false)

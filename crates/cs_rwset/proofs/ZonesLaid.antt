@@ -1,4 +1,4 @@
--- Zones are laid out as areas are.
+-- Zones are laid out in the same way as areas.
 use Rattle.std.proofs.Common.{◌≡◌, ◌+◌, ◌<◌, ◌≤◌, ℕ, zero, suc, Bool, true, false, List, [], ◌∷◌, ◌++◌, get_or, None}
 use Rattle.std.proofs.Common.{nat_lt, length, Some, if◌then◌else◌, refl, sym, ◌∙◌, ap, subst, arith, ⊎_elim}
 use Rattle.std.specs.List.{All}
@@ -13,7 +13,7 @@ use Rattle.cs_rwset.specs.inner.Zoning.{heads, joined, zones_from, zones_of}
 use Rattle.cs_rwset.proofs.ZonesCover.{LaidFrom, laid_at_zero}
 use Rattle.cs_base.specs.declared.limit.Limit.TheVariants as limit
 
--- ---- as many cells, no more zones than areas, none empty
+-- ---- the same number of cells, at most as many zones as areas, none empty
 
 zones_words : (z : Area) (areas : List Area) (begins : List Bool) → length begins ≡ length areas
     → word_count (zones_from z areas begins) ≡ z.length + word_count areas
@@ -54,13 +54,13 @@ zones_some z (x ∷ areas) (true ∷ begins) some all =
 zones_some z (x ∷ areas) (false ∷ begins) some all =
     zones_some (joined z x) areas begins (omega (arith, some)) (all_rest x areas all)
 
--- ---- one behind the other, each of its own resource
+-- ---- one after another, each with its own resource
 
--- no area is of a resource
+-- no area belongs to a resource
 abbrev Lacks : List Area → Res → Type 0
 Lacks areas r = (p : ℕ) → ¬ (HasPlace areas r p)
 
--- no two areas are of one resource, and none is of one of another list
+-- all areas have different resources, and none of these occurs in another list
 abbrev AreNew : List Area → List Area → Type 0
 AreNew before [] = Unit {0}
 AreNew before (x ∷ areas) = Lacks before x.res × Lacks areas x.res × AreNew before areas
@@ -75,7 +75,7 @@ are_new (x ∷ areas) apart = (
       apart (suc p) (suc q) r (h.0, h.1, h.2) (k.0, k.1, k.2) in omega (arith, e)),
 )
 
--- with one more area before, of a resource that none has
+-- one more area is added before, whose resource no other area has
 new_before : (before : List Area) (z : Area) (areas : List Area) → Lacks areas z.res → AreNew before areas
     → AreNew (before ++ z ∷ []) areas
 new_before before z [] lacks new = tt
@@ -105,7 +105,7 @@ zones_laid done z (x ∷ areas) (false ∷ begins) laid first follows new other 
     zones_laid done (joined z x) areas begins laid first (subst (λ n. LaidFrom n areas) on follows.1) new
     (λ p h. other (suc p) (h.0, h.1, h.2)) news.2
 
--- ---- all of it
+-- ---- all properties together
 
 pub are_zones : (areas : List Area) (begins : List Bool) → IsLaid areas → length begins ≡ length areas
     → AreZones areas (zones_of areas begins)
@@ -122,7 +122,7 @@ are_zones (x ∷ areas) (b ∷ begins) laid e =
       some = λ all. zones_some x areas begins (all_first x areas all) (all_rest x areas all);
     }
 
--- what is within the limits stays so
+-- a layout within its limits
 both_within : {X : Type 0} (a b : Bool) (x y : X) → (if a then Some x else (if b then Some y else None)) ≡ None
     → (a ≡ false) × (b ≡ false)
 both_within false false x y h = (refl, refl)
@@ -168,7 +168,7 @@ zone_marks (m ∷ marks) (b ∷ begins) (x ∷ areas) e f first =
     ap (λ c. length (if c then m ∷ heads marks begins else heads marks begins)) (first (omega arith))
     ∙ heads_long marks begins x areas (omega (arith, e)) (omega (arith, f))
 
--- marks that are among others still are so
+-- marks that imply other marks still do in zones
 pub heads_under : (lows highs begins : List Bool) → length lows ≡ length highs
     → ((p : ℕ) → get_or lows p false ≡ true → get_or highs p false ≡ true)
     → (p : ℕ) → get_or (heads lows begins) p false ≡ true → get_or (heads highs begins) p false ≡ true

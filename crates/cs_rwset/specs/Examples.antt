@@ -6,8 +6,8 @@ use Rattle.cs_ir.specs.{Resources.ops_use, Resources.ops_write, declared.op.Act.
 use Rattle.cs_rwset.specs.Footprints.{stock_of, places_holding}
 use Rattle.cs_ir.specs.declared.register.Kind.TheVariants as kind
 
--- the variable gk1, the first channel, three places of the zak space of control values, and tables 1 and 2 of four
--- points
+-- the variable gk1, the first channel, three places of the zak space of control values, and tables 1 and 2
+-- with four points each
 abbrev pub seven_areas : List Area
 seven_areas =
     record { res = Gk 0; first = 0; length = 1 }
@@ -19,13 +19,14 @@ seven_areas =
     ∷ record { res = Table 2; first = 9; length = 4 }
     ∷ []
 
--- ops that do these acts
+-- ops with these acts
 abbrev ops_of : List Act → List Op
 ops_of acts = map (λ a. record { act = a; into = record { kind = kind.LocalControl; offset = 0 }; from = [] }) acts
 
--- what ops that do these acts may use there, and what they may write
+-- the places that ops with these acts may use
 abbrev pub used : List Act → List ℕ
 used acts = places_holding seven_areas (ops_use (stock_of seven_areas) (ops_of acts))
 
+-- the places that ops with these acts may write
 abbrev pub written : List Act → List ℕ
 written acts = places_holding seven_areas (ops_write (stock_of seven_areas) (ops_of acts))

@@ -1,4 +1,4 @@
--- Which areas of a layout hold what a code may touch.
+-- The areas of a layout that hold the resources which a code may touch.
 use Rattle.std.specs.Prelude.{ℕ, Bool, true, false, List, length, slice_get, Option, Some, None}
 use Rattle.std.specs.List.{count_by, filter, filter_map, list_any, range_with_len}
 use Rattle.cs_base.specs.{Rates.same_res, declared.resource.Res.Res}
@@ -14,33 +14,33 @@ is_place space.Control (res.ZakK n) = true
 is_place space.Audio (res.ZakA n) = true
 is_place _ _ = false
 
--- how many places of a zak space have an area
+-- the number of places of a zak space that have an area
 abbrev pub place_count : List Area → Space → ℕ
 place_count areas s = count_by (λ a. is_place s a.res) areas
 
--- the number of a table
+-- the number of a table; None for any other resource
 abbrev pub table_number : Res → Option ℕ
 table_number (res.Table n) = Some n
 table_number _ = None
 
--- what a layout has beside variables and channels: as many places of each zak space as have an area, and the tables
--- that have one
+-- the resources of a layout besides variables and channels: the places of each zak space that have an area,
+-- and the tables that have one
 abbrev pub stock_of : List Area → Stock
 stock_of areas = record {
   spaces = record { control = place_count areas space.Control; audio = place_count areas space.Audio };
   live = filter_map (λ a. table_number a.res) areas;
 }
 
--- whether a resource is one of these
+-- whether a resource is in a list
 abbrev pub is_among : List Res → Res → Bool
 is_among resources r = list_any (same_res r) resources
 
--- whether an area is there and its resource is one of these
+-- whether there is an area, and its resource is in a list
 abbrev pub is_of_one : List Res → Option Area → Bool
 is_of_one resources None = false
 is_of_one resources (Some area) = is_among resources area.res
 
--- the places, ascending, of the areas whose resource is one of these
+-- the places, in ascending order, of the areas whose resource is in a list
 abbrev pub places_holding : List Area → List Res → List ℕ
 places_holding areas resources =
     filter (λ place. is_of_one resources (slice_get areas place)) (range_with_len 0 (length areas))

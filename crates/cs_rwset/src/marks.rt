@@ -1,4 +1,4 @@
-// Areas that are marked, one after another, and the places of those.
+// Marks of areas, and the places that are marked.
 ghost use Rattle.std.specs.Prelude.{◌≡◌, ◌≤◌, ◌-◌, ◌||◌, ◌++◌, Bool, true, List, length, take, drop, replicate, IfOk};
 ghost use Rattle.cs_base.specs.{Rates.same_res, declared.resource.Res.Res};
 ghost use Rattle.cs_cells.specs.Areas.{IsLaid};
@@ -12,7 +12,7 @@ use cs_cells::Layout;
 use cs_ir::{Reach, Touch, places_of, zak_place};
 use std::alloc::Global;
 
-/// Marks each area whose resource is among what is touched.
+/// Marks each area whose resource is touched.
 pub fn mark_all(marks: &mut [bool], layout: &Layout, runs: &Runs, touches: &[Touch])
     requires laid { IsLaid layout.now }
     requires runs { AreRuns layout.now runs.now }
@@ -25,7 +25,8 @@ pub fn mark_all(marks: &mut [bool], layout: &Layout, runs: &Runs, touches: &[Tou
     }
 }
 
-/// Marks each area whose resource is touched, at once where these lie side by side.
+// Marks each area whose resource one touch covers: as a run if these areas are adjacent, otherwise one by
+// one.
 fn mark(marks: &mut [bool], layout: &Layout, runs: &Runs, touch: Touch)
     requires laid { IsLaid layout.now }
     requires runs { AreRuns layout.now runs.now }
@@ -50,7 +51,7 @@ fn mark(marks: &mut [bool], layout: &Layout, runs: &Runs, touch: Touch)
     }
 }
 
-/// Marks the areas of a run.
+// Marks the areas of a run.
 fn mark_run(marks: &mut [bool], run: Run)
     requires ordered { run.from ≤ run.to }
     requires within { run.to ≤ length marks.old }
@@ -59,7 +60,7 @@ fn mark_run(marks: &mut [bool], run: Run)
     marks[run.from as usize..run.to as usize].fill(true);
 }
 
-/// Marks the area of a resource, where it has one.
+// Marks the area of a resource, if it has one.
 fn mark_one(marks: &mut [bool], layout: &Layout, res: Res)
     requires laid { IsLaid layout.now }
     requires long { length marks.old ≡ length layout.now }
@@ -71,7 +72,7 @@ fn mark_one(marks: &mut [bool], layout: &Layout, res: Res)
     }
 }
 
-/// Marks each area whose resource is named, by a look at every area.
+// Marks each area whose resource a touch covers, by testing every area.
 fn mark_each(marks: &mut [bool], layout: &Layout, spaces: Spaces, touch: Touch)
     requires long { length marks.old ≡ length layout.now }
     ensures { (P : Res → Bool) → marks.old ≡ marked_by P layout.now
@@ -84,7 +85,7 @@ fn mark_each(marks: &mut [bool], layout: &Layout, spaces: Spaces, touch: Touch)
     }
 }
 
-/// The places that are marked, ascending.
+/// Returns the places that are marked, in ascending order.
 pub fn marked_places(alloc: Global, marks: &[bool], count: u32) -> Result<Places, OutOfMemory>
     requires { count ≡ length marks.now }
     ensures { IfOk result (λ places. places ≡ marked marks.now) }

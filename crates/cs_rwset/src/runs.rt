@@ -1,4 +1,4 @@
-// Where the areas of what has numbers lie side by side.
+// Runs: numbered resources whose areas are adjacent.
 ghost use Rattle.std.specs.Prelude.{◌≡◌, ◌<◌, ◌≤◌, ℕ, List, length, not, slice_get, true, Some, IfSome, is_some};
 ghost use Rattle.cs_base.specs.Limits.{most_resources};
 ghost use Rattle.cs_cells.specs.{Areas.HasPlace, Areas.IsLaid, declared.footprint.Area.Area};
@@ -14,32 +14,34 @@ use cs_cells::Layout;
 use cs_ir::{Reach, Touch, places_of, zak_place};
 use cs_words::Space;
 
-/// Places or numbers from one up to another, which isn't among them.
+/// Places or numbers from `from` up to `to`, which is excluded.
 #[derive(Clone, Copy)]
 pub struct Run {
     pub from: u32,
     pub to: u32,
 }
 
-/// Where the areas of what has numbers lie side by side in a layout. Where a field is None, they don't.
+/// The runs of numbered resources in a layout. A field is None if the areas aren't adjacent.
 #[derive(Clone, Copy)]
 pub struct Runs {
-    /// How many places each zak space has.
+    /// The number of places of each zak space.
     pub spaces: Spaces,
-    /// The areas of tables, in whatever order.
+    /// The areas of tables, in any order.
     pub tables: Option<Run>,
-    /// Where the areas of the zak places of control values begin, which lie in the order of their numbers.
+    /// The place of the first area of the zak space of control values, if its areas are in the order of their
+    /// numbers.
     pub control: Option<u32>,
-    /// Where those of the zak places of sounds begin, which lie so too.
+    /// The place of the first area of the zak space of audio signals, if its areas are in the order of their
+    /// numbers.
     pub audio: Option<u32>,
 }
 
 impl Runs {
-    /// Looks where areas lie side by side.
+    /// Finds the runs of a layout.
     pub fn of(layout: &Layout) -> Runs
         ensures { AreRuns layout.now result }
     {
-        // No two areas are of one resource, and they are few.
+        // For the prover: no two areas belong to the same resource, and there are few areas.
         let _ = layout.words();
         let spaces = spaces_of(layout);
         Runs {
@@ -50,7 +52,7 @@ impl Runs {
         }
     }
 
-    /// The areas whose resources are named; None where no run tells them.
+    /// The run of areas that a touch covers. None if they don't form a known run.
     pub fn run(&self, touch: Touch) -> Option<Run>
         ensures run { IfSome result (λ run. (areas : List Area) → IsLaid areas → AreRuns areas self.now
             → IsRun areas (covers self.now.spaces touch) run) }
@@ -63,7 +65,7 @@ impl Runs {
         }
     }
 
-    /// The areas of the places of a zak space within a reach; None where no run tells them.
+    // The run of areas of the places of a zak space within a reach. None if they don't form a known run.
     fn places(&self, space: Space, reach: Reach) -> Option<Run>
         ensures run { IfSome result (λ run. (areas : List Area) → IsLaid areas → AreRuns areas self.now
             → IsRun areas (covers self.now.spaces (touched.Places space reach)) run) }
@@ -75,7 +77,7 @@ impl Runs {
         }
     }
 
-    /// Where the areas of a zak space begin.
+    // The place of a zak space's first area, if its areas form a run.
     fn begin(&self, space: Space) -> Option<u32>
         ensures { result ≡ begin_of self.now space }
     {
@@ -86,7 +88,8 @@ impl Runs {
     }
 }
 
-/// The areas of the zak places within a reach, of so many whose areas begin at a place.
+// The run of areas of the zak places within a reach. The areas of the first `count` places begin at place
+// `begin`.
 fn placed(begin: u32, count: u32, reach: Reach) -> Run
     ensures { (areas : List Area) (s : Space) (spaces : Spaces) → IsLaid areas → length areas ≤ most_resources
         → spaces ≡ (stock_of areas).spaces → count ≡ places_of spaces s → AreInOrder areas s count begin
@@ -99,7 +102,7 @@ fn placed(begin: u32, count: u32, reach: Reach) -> Run
     }
 }
 
-/// The numbers within a reach, of those below a count.
+// The numbers within a reach, out of the numbers below `count`.
 fn numbers_within(reach: Reach, count: u32) -> Run
     ensures within { (n : ℕ) → n < count → reaches reach n ≡ true → (result.from ≤ n) × (n < result.to) }
     ensures all { (n : ℕ) → result.from ≤ n → n < result.to → reaches reach n ≡ true }
@@ -119,8 +122,8 @@ fn numbers_within(reach: Reach, count: u32) -> Run
     }
 }
 
-/// Where the areas of so many places of a zak space begin, if they lie side by side in the order of their numbers; some
-/// place or other where there are none.
+// The place of the first of `count` areas of a zak space, if they are adjacent and in the order of their
+// numbers. If `count` is 0, any place.
 fn find_places(layout: &Layout, space: Space, count: u32) -> Option<u32>
     requires { IsLaid layout.now }
     ensures { Finds (AreInOrder layout.now space count) result }
@@ -135,7 +138,7 @@ fn find_places(layout: &Layout, space: Space, count: u32) -> Option<u32>
     Some(begin)
 }
 
-/// Where the area of the first place of a zak space is, or the first place of the layout where it has none.
+// The place of the area of a zak space's first place, or place 0 if it has none.
 fn first_place(layout: &Layout, space: Space) -> u32
     requires { IsLaid layout.now }
     ensures within { result ≤ length layout.now }
@@ -147,7 +150,7 @@ fn first_place(layout: &Layout, space: Space) -> u32
     }
 }
 
-/// The areas of tables, if they lie side by side.
+// The run of the areas of tables, if they are adjacent.
 fn find_tables(layout: &Layout, spaces: Spaces) -> Option<Run>
     ensures { Finds (IsRun layout.now (covers spaces (touched.Tables reach.Any))) result }
 {
@@ -160,8 +163,8 @@ fn find_tables(layout: &Layout, spaces: Spaces) -> Option<Run>
     }
 }
 
-/// The first place from a place on whose area is a table's, or whose area isn't; where there is none, the number of
-/// areas.
+// The first place from `from` on whose area belongs to a table, or with `of_table` false the first whose
+// area doesn't. If there is none, the number of areas.
 fn next_place(layout: &Layout, spaces: Spaces, of_table: bool, from: u32) -> u32
     requires { from ≤ length layout.now }
     ensures within { (from ≤ result) × (result ≤ length layout.now) }
@@ -178,7 +181,7 @@ fn next_place(layout: &Layout, spaces: Spaces, of_table: bool, from: u32) -> u32
     layout.len()
 }
 
-/// How many places each zak space has.
+// The number of places of each zak space.
 fn spaces_of(layout: &Layout) -> Spaces
     ensures { result ≡ (stock_of layout.now).spaces }
 {
@@ -188,7 +191,7 @@ fn spaces_of(layout: &Layout) -> Spaces
     }
 }
 
-/// How many places of a zak space have an area.
+// The number of places of a zak space that have an area.
 fn place_count(layout: &Layout, space: Space) -> u32
     ensures { result ≡ place_count layout.now space }
 {

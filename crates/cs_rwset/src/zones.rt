@@ -1,4 +1,4 @@
-// Zones of a layout, and the footprints of codes over them.
+// The zones of a layout, and the footprints of codes over them.
 ghost use Rattle.std.specs.Prelude.{◌≡◌, ◌<◌, ◌≤◌, ◌-◌, true, false, length, IfOk};
 ghost use Rattle.std.specs.List.{All, AllZip};
 ghost use Rattle.cs_base.specs.Limits.{most_resources};
@@ -15,22 +15,23 @@ use cs_cells::{Area, Footprint, Layout};
 use cs_ir::{Code, Instrument};
 use std::alloc::Global;
 
-/// Zones of a layout, and footprints over them.
+/// The zones of a layout, and footprints over them.
 #[derive(Drop)]
 pub struct Zoned {
-    /// Each zone as an area, of the resource of the first of its areas.
+    /// Each zone as an area. Its resource is the resource of its first area.
     pub zones: Layout,
-    /// What the code outside of instruments may touch.
+    /// The zones that the code outside of instruments may touch.
     pub outside: Footprint,
-    /// What the codes that perform the instruments may touch, in their order.
+    /// The zones that the codes that perform the instruments may touch, in the order of the instruments.
     pub feet: Vec<Footprint>,
 }
 
-/// Zones: neighbouring areas that each of these codes may use together, or not at all, and so with what it may write,
-/// as one; and what each code may touch of them. So a footprint has a place for each zone, however many areas a
-/// computed number may name. For each code it takes as long as the list of what its ops touch of what notes share, and
-/// as the layout has areas; for a reach over many numbers as long again as it names areas, where those lie side by
-/// side, and else as the layout has areas. The one error is out of memory.
+/// Divides a layout into zones, and finds the zones that each code may touch. The areas of a zone are
+/// neighbours; each code may use all of them or none, and may write all of them or none. So a footprint has
+/// one place for each zone, however many areas a computed number may name. The time for each code grows with
+/// the list of resources that its ops touch, plus the number of areas. A reach over many numbers takes
+/// additional time: as many steps as it names areas if these are adjacent, otherwise as many as there are
+/// areas. The only error is out of memory.
 pub fn find_zones(
     alloc: Global,
     layout: &Layout,
@@ -48,7 +49,7 @@ pub fn find_zones(
     zones_by(alloc, layout, &outside, &each, &begins)
 }
 
-/// Zones by where they begin, and footprints over them by what codes touch.
+// Builds the zones, given where they begin, and the footprints over them, given the touched areas.
 fn zones_by(
     alloc: Global,
     layout: &Layout,
@@ -63,7 +64,7 @@ fn zones_by(
     ensures outside { IfOk result (λ z. IsFootOf layout.now z.zones outside.now z.outside) }
     ensures feet { IfOk result (λ z. AllZip (IsFootOf layout.now z.zones) each.now z.feet.items) }
 {
-    // No two areas are of one resource.
+    // For the prover: no two areas belong to the same resource.
     let _ = layout.words();
     Ok(Zoned {
         outside: foot_over(alloc, outside, begins)?,
@@ -87,7 +88,7 @@ fn marks_of_each(
     Ok(each)
 }
 
-/// Of each of so many areas, whether a zone begins with it.
+// For each of `areas` areas, whether a zone begins with it.
 fn begins_of(
     alloc: Global,
     areas: usize,
@@ -105,7 +106,8 @@ fn begins_of(
     Ok(begins)
 }
 
-/// Whether a zone begins with an area: with the first, and with each that a code touches otherwise than the one before.
+// Whether a zone begins with an area: the first area does, and each area that some code touches differently
+// from the one before it.
 fn begins_at(outside: &Marks, each: &[Marks], place: usize) -> bool
     requires outside { (place < length outside.now.uses.items) × (place < length outside.now.writes.items) }
     requires each { All (λ (m : Marks). (place < length m.uses.items) × (place < length m.writes.items)) each.now }
@@ -153,7 +155,7 @@ fn layout_of(alloc: Global, layout: &Layout, begins: &[bool]) -> Result<Layout, 
     }
 }
 
-/// The zones as areas.
+// The zones as areas.
 fn areas_of(alloc: Global, layout: &Layout, begins: &[bool]) -> Result<Vec<Area>, OutOfMemory>
     requires { length begins.now ≡ length layout.now }
     ensures { IfOk result (λ v. v.items ≡ zones_of layout.now begins.now) }
@@ -192,7 +194,7 @@ fn feet_over(alloc: Global, each: &[Marks], begins: &[bool]) -> Result<Vec<Footp
     Ok(feet)
 }
 
-/// The zones that are marked, by the areas with which they begin.
+// The zones that are marked, by the marks of their first areas.
 fn foot_over(alloc: Global, marks: &Marks, begins: &[bool]) -> Result<Footprint, OutOfMemory>
     requires { AreFew marks.now }
     ensures uses { IfOk result (λ foot. foot.uses ≡ marked (heads marks.now.uses.items begins.now)) }
@@ -213,7 +215,7 @@ fn places_over(alloc: Global, marks: &[bool], begins: &[bool]) -> Result<Places,
     marked_places(alloc, &heads, count)
 }
 
-/// The marks of the areas with which zones begin.
+// The marks of the areas with which zones begin.
 fn heads_of(alloc: Global, marks: &[bool], begins: &[bool]) -> Result<Vec<bool>, OutOfMemory>
     ensures heads { IfOk result (λ v. v.items ≡ heads marks.now begins.now) }
     ensures few { IfOk result (λ v. length v.items ≤ length marks.now) }

@@ -1,4 +1,4 @@
--- Waiting notes that are kept by their cycle, with one put in or taken out.
+-- Waiting notes stored by cycle, when one is added or taken out.
 use Rattle.std.proofs.Common.{◌≡◌, ◌≢◌, ◌∙◌, ◌++◌, ◌+◌, ◌≤◌, ◌==◌, ℕ, Bool, true, false, List, [], ◌∷◌, refl, sym, ap}
 use Rattle.std.proofs.Common.{subst, arith, append-nil, cond}
 use Rattle.std.specs.Prelude.{if◌then◌else◌, Option, Some, None, option_to_list}
@@ -17,7 +17,7 @@ use Rattle.cs_sched.specs.declared.pending.Added.TheVariants as added
 abbrev pub Entries : Type 0
 Entries = List (ℕ × List Due)
 
--- ---- those of one cycle among all
+-- ---- the notes of one cycle among all
 
 abbrev pub found : Entries → ℕ → List Due
 found es c = unwrap_or (lookup (is_at (nat_cmp c)) es) []
@@ -48,7 +48,7 @@ is_own c k (d ∷ ds) own =
     let rest = is_own c k ds (All-tail (λ d. d.cycle ≡ k) d ds own) in
     grind arith
 
--- the notes of a cycle are those that are kept at it
+-- the notes that begin in a cycle are the notes stored for it
 pub those_at : (es : Entries) → IsStrictlySortedBy nat_cmp (keys_of es)
     → ((c : ℕ) → All (λ d. d.cycle ≡ c) (found es c)) → (c : ℕ) → those_in (all_dues es) c ≡ found es c
 those_at [] ordered own c = refl
@@ -103,7 +103,7 @@ puts m n k o u c = ap (λ x. unwrap_or x []) (u.0 c) ∙ by (c == k) refl
     by true e = ap (λ b. unwrap_or (cond b o (get nat_cmp m c)) []) (same k c (sym (eqb-true c k e)))
     by false e = ap (λ b. unwrap_or (cond b o (get nat_cmp m c)) []) (apart k c (flipped c k e))
 
--- a second change at the same cycle
+-- a second change for the same cycle
 pub puts_again : (m n o : Map) (k : ℕ) (ds es : List Due) → Puts m n k ds → Puts n o k es → Puts m o k es
 puts_again m n o k ds es first second c = second c ∙ by (c == k) (first c)
   where
@@ -124,13 +124,13 @@ still_by_cycle m n k kept more ds a u ordered own few = record {
     by c true e = rw (eqb-true c k e) own
     by c false e = a.own c
 
--- one note more, which begins in the cycle
+-- one more note, which begins in the cycle
 pub own_more : (ds : List Due) (d : Due) → All (λ e. e.cycle ≡ d.cycle) ds
     → All (λ e. e.cycle ≡ d.cycle) (ds ++ d ∷ [])
 own_more ds d own = All-append (λ e. e.cycle ≡ d.cycle) ds (d ∷ []) own
     (λ j e lt. let first : j ≡ 0 = omega arith in rw first refl)
 
--- those that stay when the first is taken out
+-- the notes that stay when the first is taken out
 own_rest : (k : ℕ) (r : Option Due) (ds rest : List Due) → ds ≡ option_to_list r ++ rest
     → All (λ e. e.cycle ≡ k) ds → All (λ e. e.cycle ≡ k) rest
 own_rest k None ds rest is own = subst (All (λ e. e.cycle ≡ k)) is own
@@ -148,7 +148,7 @@ pub none_left : (r : Option Due) (ds : List Due) (B : Type 0) (C : Due → Type 
 none_left None ds B C both e = both.0
 none_left (Some d) ds B C both e = absurd (cc e)
 
--- the same entries
+-- maps with the same entries
 pub same_by_cycle : (m n : Map) (kept : ℕ) → n.entries ≡ m.entries → AreByCycle m kept → AreByCycle n kept
 same_by_cycle m n kept e a = record {
   ordered = subst (λ (es : Entries). IsStrictlySortedBy nat_cmp (keys_of es)) (sym e) a.ordered;
@@ -156,14 +156,14 @@ same_by_cycle m n kept e a = record {
   few = a.few;
 }
 
--- the notes of each cycle after a change at one
+-- the notes of each cycle after a change for one
 changed : (m n : Map) (k kept more : ℕ) (ds : List Due) → AreByCycle m kept → AreByCycle n more → Puts m n k ds
     → (c : ℕ) → those_in (all_dues n.entries) c ≡ (if c == k then ds else those_in (all_dues m.entries) c)
 changed m n k kept more ds a b u c =
     those_at n.entries b.ordered b.own c ∙ u c
     ∙ ap (λ xs. if c == k then ds else xs) (sym (those_at m.entries a.ordered a.own c))
 
--- a note waits behind the others of its cycle
+-- an added note waits after the others of its cycle
 pub kept_waits : (m n : Map) (kept : ℕ) (d : Due) → AreByCycle m kept → AreByCycle n (kept + 1)
     → Puts m n d.cycle (at_cycle m d.cycle ++ d ∷ [])
     → waiting (record { dues = all_dues n.entries; kept = kept + 1 })
@@ -181,7 +181,7 @@ kept_waits m n kept d a b u = λ j. record { due = λ c. at c j; kept = kept + 1
             ∙ sym (those_at m.entries a.ordered a.own c))
         by false e = refl
 
--- the first of a cycle is taken out, and all others stay
+-- the first note of a cycle is taken out, and all others stay
 pub taken : (m n : Map) (kept k : ℕ) (r : Option Due) (rest : List Due) → AreByCycle m kept → AreByCycle n kept
     → Puts m n k rest → at_cycle m k ≡ option_to_list r ++ rest → (r ≡ None → at_cycle m k ≡ [])
     → IsTaken k (waiting (record { dues = all_dues m.entries; kept = kept })) r
@@ -203,7 +203,7 @@ taken m n kept k r rest a b u first none = record {
     there : those_in (all_dues n.entries) k ≡ rest
     there = each k ∙ ap (λ t. if t then rest else those_in (all_dues m.entries) k) (same_self k)
 
--- nothing is kept at a cycle
+-- no note is stored for a cycle
 pub none_taken : (m : Map) (kept k : ℕ) → AreByCycle m kept → get nat_cmp m k ≡ None
     → IsTaken k (waiting (record { dues = all_dues m.entries; kept = kept })) None
     (waiting (record { dues = all_dues m.entries; kept = kept }))

@@ -1,11 +1,12 @@
-//! Notes that other notes ask for: which of them wait, and when each begins.
+//! Notes that other notes schedule: which of them wait, and when each begins.
 //!
-//! Its one contract: what waits is seen as the list of notes that begin in each cycle, in the order in which they
-//! were kept (specs/Waiting.antt). `Pending::add` returns the first answer that applies and keeps the note exactly
-//! where that is `Kept`; `Pending::next` takes the first out. In which order notes of different cycles lie in memory,
-//! and how the first of a cycle is found, may be changed without anyone above noticing.
+//! Its one contract: contracts see the waiting notes as a list for each cycle, of the notes that begin in it,
+//! in the order in which they were added (specs/Waiting.antt). `Pending::add` returns the first answer that
+//! applies, and adds the note if and only if that is `Kept`; `Pending::next` takes the first note out. The
+//! layout of notes of different cycles in memory, and the way the first note of a cycle is found, may be
+//! changed without anyone above noticing.
 //!
-//! To be read in this order: `due` (when a note begins and ends), `pending`.
+//! In reading order: `due` (when a note begins and ends), `pending`.
 #![tactic(auto)]
 
 mod due;

@@ -1,4 +1,4 @@
-// The notes that wait.
+// The waiting notes.
 ghost use Rattle.std.specs.Prelude.{◌≡◌, ◌<◌, ◌++◌, ◌∷◌, [], IfOk, OnErr, OnOk};
 ghost use Rattle.std.specs.{BTreeMap.IsOrdered, Ordering.nat_cmp};
 ghost use Rattle.cs_base.specs.Limits.{most_asks};
@@ -14,12 +14,12 @@ use std::alloc::Global;
 use std::collections::{BTreeMap, LinkedList};
 use std::marker::Model;
 
-/// When a note asks for another, and in which piece.
+/// The time at which a note schedules another, and the piece.
 #[derive(Clone, Copy)]
 pub struct Asking {
-    /// The control cycle, from the start of the piece.
+    /// The control cycle, counted from the start of the piece.
     pub cycle: u32,
-    /// The p2 of the note that asks, in seconds.
+    /// The p2 of the scheduling note, in seconds.
     pub time: Num,
     /// The header of the orchestra.
     pub head: Head,
@@ -27,20 +27,20 @@ pub struct Asking {
     pub total: u32,
 }
 
-/// What became of a note that was asked for.
+/// The outcome of scheduling a note.
 #[derive(Clone, Copy)]
 pub enum Added {
     Kept,
-    /// Its duration is negative.
+    /// The note isn't added: its duration is negative.
     Negative,
-    /// It would begin when the piece has ended.
+    /// The note isn't added: it would begin after the piece has ended.
     PastEnd,
-    /// 100,000 have been kept before: no more are.
+    /// The note isn't added: 100,000 notes have been added before.
     TooMany,
 }
 
-/// Notes that were asked for and haven't begun. Contracts see those that begin in each cycle, in the order in which
-/// they were kept, and how many were kept in all.
+/// Notes that were scheduled and haven't begun. Contracts see the notes that begin in each cycle, in the
+/// order in which they were added, and the number of notes added in all.
 #[derive(Drop)]
 pub struct Pending {
     dues: BTreeMap<u32, LinkedList<Due>>,
@@ -58,7 +58,7 @@ impl Model for Pending {
 }
 
 impl Pending {
-    /// Nothing waits. It keeps the allocator and can't be out of memory.
+    /// No notes. Stores the allocator, and can't run out of memory.
     pub fn new(alloc: Global) -> Pending
         ensures { waiting result ≡ nothing_waits }
     {
@@ -68,9 +68,9 @@ impl Pending {
         }
     }
 
-    /// Keeps the note that a note asks for, unless an answer of these applies before `Kept`: `Negative`, `TooMany`
-    /// (past 100,000 in all), `PastEnd`. The result is the first that applies. Where memory is refused, nothing has
-    /// changed.
+    /// Adds the note that a note schedules, unless another answer than `Kept` applies: `Negative`, `TooMany`
+    /// (beyond 100,000 in all), `PastEnd`. Returns the first answer that applies. If memory runs out, nothing
+    /// has changed.
     pub fn add(&mut self, alloc: Global, ask: Ask, at: Asking) -> Result<Added, OutOfMemory>
         ensures answer { IfOk result (λ a. a ≡ answer_to (clock_of at.head at.total) at.cycle ask self.old.kept) }
         ensures waits { IfOk result (λ a. waiting self.new
@@ -97,7 +97,8 @@ impl Pending {
         Ok(Added::Kept)
     }
 
-    /// Takes out the note that was kept first among those that begin in a cycle. None where none does.
+    /// Takes out the note that was added first among the notes that begin in a cycle. Returns None if there
+    /// is none.
     pub fn next(&mut self, cycle: u32) -> Option<Due>
         ensures { IsTaken cycle (waiting self.old) result (waiting self.new) }
     {
@@ -109,7 +110,7 @@ impl Pending {
         due
     }
 
-    // Puts a note behind all that begin in its cycle.
+    // Puts a note after all notes that begin in its cycle.
     fn keep(&mut self, alloc: Global, due: Due) -> Result<(), OutOfMemory>
         requires { self.old.kept < most_asks }
         ensures waits { OnOk result (waiting self.new ≡ with_answer added.Kept due (waiting self.old)) }
@@ -121,7 +122,7 @@ impl Pending {
     }
 }
 
-// Puts a note behind all that are kept at its cycle.
+// Puts a note after all notes of its cycle.
 fn put(
     dues: &mut BTreeMap<u32, LinkedList<Due>>,
     alloc: Global,
@@ -146,7 +147,7 @@ fn put(
     }
 }
 
-// Takes out a cycle at which nothing is kept.
+// Removes a cycle that has no notes.
 fn forget(dues: &mut BTreeMap<u32, LinkedList<Due>>, cycle: u32)
     ensures put { Puts dues.old dues.new cycle [] }
     ensures ordered { IsOrdered nat_cmp dues.new }

@@ -1,4 +1,4 @@
--- The steps of a cycle answer the formula over all steps so far.
+-- The steps of a cycle return the formula over all steps so far.
 use Rattle.std.proofs.Common.{◌≡◌, ℕ, zero, suc, ◌+◌, ◌<◌, List, [], ◌∷◌, ◌++◌, ℤ, refl, ap, sym, ◌∙◌, subst, arith}
 use Rattle.std.proofs.Common.{append_assoc, add-one}
 use Rattle.std.proofs.lemmas.List.{append-nil}

@@ -1,4 +1,4 @@
--- Each unit is its formula.
+-- Each unit returns its formula.
 use Rattle.std.proofs.Common.{◌≡◌, ℕ, zero, suc, ◌+◌, ◌≤◌, ◌<◌, ◌⊎◌, inl, inr, ⊎_elim, subst, append_assoc, ◌==◌, Bool}
 use Rattle.std.proofs.Common.{true, false, cond, if◌then◌else◌, Option, Some, ◌-◌, ◌%◌, List, [], ◌∷◌, ◌++◌, length}
 use Rattle.std.proofs.Common.{reverse, drop, replicate, ℤ, pos, fold, find, refl, ap, sym, ◌∙◌, arith}
@@ -75,7 +75,7 @@ diff_law = record {
   goes_on = λ s rate pace init before x e. sym (now_one 0 before x);
 }
 
--- what keeps nothing is its formula by form
+-- a unit without state returns its formula by definition
 pub plain_law : (value : List ℤ → ℤ) → IsUnit (plain_of value) plain_start (plain_step value) PlainStands
 plain_law value = record {
   starts = λ rate pace init. tt;
@@ -123,7 +123,7 @@ reverse_same zero z = refl
 reverse_same (suc m) z =
     reverse-append (z ∷ []) (replicate m z) ∙ ap (λ l. l ++ z ∷ []) (reverse_same m z) ∙ one_behind m z
 
--- zeros behind a list are what stands there anyway
+-- zeros appended to a list don't change any of its arguments, since a missing argument is 0
 behind : (m k : ℕ) (xs : List ℤ) → argument (xs ++ replicate m (pos 0)) k ≡ argument xs k
 behind m k [] = zeros m k
 behind m zero (x ∷ xs) = refl

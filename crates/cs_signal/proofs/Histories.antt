@@ -1,4 +1,4 @@
--- What a history of steps says after one step more.
+-- Histories of steps, extended by one more step.
 use Rattle.std.proofs.Common.{◌≡◌, ℕ, suc, ◌+◌, List, [], ◌∷◌, ◌++◌, ◌-◌, length, reverse, get_or, ℤ, refl, ap, ◌∙◌}
 use Rattle.std.proofs.Common.{arith}
 use Rattle.std.proofs.lemmas.List.{reverse-append, map-append, length-append, get_or_at}

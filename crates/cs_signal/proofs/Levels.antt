@@ -51,7 +51,7 @@ later n m decay duration (inr h) = inr (omega arith)
 abbrev pub linen_at_step : LinenState → ℕ → LinenState
 linen_at_step s m = record { rise = s.rise; duration = s.duration; decay = s.decay; number = m }
 
--- the steps of a linen between rise and decay are its amplitude times one
+-- between rise and decay, the results of a linen are its amplitude times 1
 pub linen_level : (x : ℕ → ℤ) (s : LinenState) (j n : ℕ) → IsLevel s n → run linen_step (λ j. x j ∷ []) s j n ≡
     (linen_at_step s (s.number + n), map (λ i. product_of (x i) one) (range_with_len j n))
 linen_level x s j zero h = ap (λ m. (linen_at_step s m, [])) (omega arith)

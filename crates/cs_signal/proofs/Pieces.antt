@@ -1,4 +1,4 @@
--- A walk along the pieces of a linseg: at each, what is left of the step's number.
+-- A walk along the segments of a linseg, with the remaining steps at each.
 use Rattle.std.proofs.Common.{◌≡◌, ℕ, ◌+◌, ◌-◌, ◌<◌, ◌≤◌, nat_lt, true, false, List, length, ℤ, refl, sym, subst, arith}
 use Rattle.std.proofs.Common.{below_more}
 use Rattle.std.specs.{List.range_with_len, Prelude.slice_index}
@@ -25,7 +25,7 @@ HasPassed-more lengths n k begin d p h e low =
       passed = below_more (λ i. begin_of lengths (i + 1) ≤ n) k p.passed (omega arith);
     }
 
--- the same at a later step
+-- a segment that has been passed at a step has also been passed at a later step
 pub HasPassed-later : (lengths : List ℕ) (n m k begin : ℕ) → HasPassed lengths n k begin → n ≤ m
     → HasPassed lengths m k begin
 HasPassed-later lengths n m k begin p h =
@@ -46,7 +46,7 @@ piece_at-here lengths n k begin p =
     subst (λ x. nat_lt n (begin_of lengths (x + 1)) ≡ true) (sym (number_at m k h'))
     (is_below n (begin_of lengths (k + 1)) (omega arith)))
 
--- on a piece's line
+-- a value on the line of a segment
 pub on_piece : (values : List ℤ) (lengths : List ℕ) (n k begin d : ℕ) (here next : ℤ) → IsPlace lengths n k begin
     → k < length lengths → d ≡ slice_index lengths k → here ≡ argument values k → next ≡ argument values (k + 1) →
     clamp (part_way here next (n - begin) d) ≡ clamp (on_pieces values lengths n)
@@ -57,7 +57,7 @@ on_piece values lengths n k begin d here next p h ed eh en =
     let e = p.come.begins in
     rw at (rw test (rw e (rw (← ed) (rw (← eh) (rw (← en) refl)))))
 
--- after the last piece
+-- the value after the last segment
 pub last_value : (values : List ℤ) (lengths : List ℕ) (n k begin : ℕ) (z : ℤ) → IsPlace lengths n k begin
     → length lengths ≤ k → z ≡ argument values k → clamp z ≡ clamp (on_pieces values lengths n)
 unfolding on_pieces

@@ -1,4 +1,4 @@
--- Integers of a machine's width: those that fit stay as they are, and so does a product.
+-- Integers of a machine's width: numbers that fit are unchanged, and so is their product.
 use mir.Syntax.{Width}
 use mir.Val.{hbits}
 use Rattle.std.proofs.Common.{◌≡◌, ℕ, ◌+◌, ◌*◌, ◌<◌, ◌≤◌, ◌^◌, ℤ, ◌*ℤ◌, FitsSigned, unsigned_abs, to_z, of_z}
@@ -14,7 +14,7 @@ pub within : (w : Width) (z : ℤ) (m n : ℕ) → unsigned_abs z ≤ m → m < 
     → unsigned_abs (to_z w (of_z w z)) < n
 within w z m n h fits below = let e = ap unsigned_abs (same w z m h fits) in omega (arith, e, h, below)
 
--- a sum or a difference is within what both of its numbers are within
+-- a sum or a difference is within the sum of the bounds of its two numbers
 pub both_within : (w : Width) (s a b : ℤ) (m n : ℕ)
     → unsigned_abs s ≤ unsigned_abs (to_z w (of_z w a)) + unsigned_abs (to_z w (of_z w b)) → unsigned_abs a ≤ m
     → unsigned_abs b ≤ n → m < 2 ^ hbits w → n < 2 ^ hbits w → unsigned_abs s ≤ m + n
@@ -23,7 +23,7 @@ both_within w s a b m n h p q fm fn =
     let y = ap unsigned_abs (same w b n q fn) in
     omega (arith, h, p, q, x, y)
 
--- a and b are x and y, whose product fits and is within k
+-- the machine numbers a and b represent x and y, whose product fits and is within k
 pub record IsProduct (w : Width) (a b x y : ℤ) (k : ℕ) : Type 0 where
   pub fits : FitsSigned w (a *ℤ b)
   pub value : to_z w (of_z w (a *ℤ b)) ≡ x *ℤ y
@@ -41,6 +41,6 @@ product w a b x y m n ea eb p q few =
       bounded = subst (λ z. unsigned_abs z ≤ m * n) (sym value) (product_within x y m n p q);
     }
 
--- a number in range is within 2^47
+-- the absolute value of a number in range is at most 2^47
 pub raw_within : (z : ℤ) → IsRaw z → unsigned_abs z ≤ 140737488355328
 raw_within z h = omega (arith, ints, h.0, h.1)

@@ -1,4 +1,4 @@
--- A straight line by sums alone: the parts of a number, of a sum, and the quotient that they give.
+-- A straight line by additions alone: the parts of a number and of a sum, and the quotient from the parts.
 use Rattle.std.proofs.Common.{◌≡◌, ℕ, zero, suc, ◌+◌, ◌-◌, ◌*◌, ◌<◌, ◌≤◌, inl, inr, List, [], ◌∷◌, ◌++◌, length, map, ℤ}
 use Rattle.std.proofs.Common.{pos, ◌+ℤ◌, ◌-ℤ◌, ◌*ℤ◌, refl, set, unsigned_abs, ◌^◌, ap, sym, ◌∙◌, subst, replicate}
 use Rattle.std.proofs.Common.{arith, Bool, false, ◌==◌, ◌%◌, if◌then◌else◌}
@@ -20,14 +20,14 @@ floor_is z q d r h = quotient_of_parts z q d r h.sum h.below
 pub once_more : (z : ℤ) (d : ℕ) → z *ℤ pos (suc d) ≡ (z *ℤ pos d) +ℤ z
 once_more z d = *ℤ_comm z (pos (suc d)) ∙ suc_ℤ-*ℤ (pos d) z ∙ ap (λ w. w +ℤ z) (*ℤ_comm (pos d) z)
 
--- a product of a number within m and one within n is within m * n
+-- the product of a number within m and a number within n is within m * n
 pub product_within : (x y : ℤ) (m n : ℕ) → unsigned_abs x ≤ m → unsigned_abs y ≤ n → unsigned_abs (x *ℤ y) ≤ m * n
 product_within x y m n p q =
     let e = unsigned_abs-mul x y in
     let h : unsigned_abs x * unsigned_abs y ≤ m * n = mul-le (unsigned_abs x) (unsigned_abs y) m n p q in
     omega (arith, e, h)
 
--- a sum times a number
+-- a sum times a number is the sum of the products
 pub spread : (x y : ℤ) (d : ℕ) → (x +ℤ y) *ℤ pos d ≡ (x *ℤ pos d) +ℤ (y *ℤ pos d)
 spread x y zero = omega (arith, ints)
 spread x y (suc d) =
@@ -90,14 +90,14 @@ HasRamped_all from to n d count j whole rest out h p q =
     let e : j ≡ count = omega arith in
     sym (take_all j out (omega arith)) ∙ h.done ∙ ap (ramp_of from to n d) e
 
--- the same line, and the same linseg, at another step
+-- the same line, and the same linseg, before another step
 abbrev line_at_step : LineState → ℕ → LineState
 line_at_step s m = record { from = s.from; to = s.to; way = s.way; number = m }
 
 abbrev linseg_at_step : LinsegState → ℕ → LinsegState
 linseg_at_step s m = record { values = s.values; lengths = s.lengths; number = m }
 
--- a line's steps are a ramp, while their number stays below its end
+-- the results of a line are a ramp, as long as its step number stays below its end
 pub line_ramp : (at : ℕ → List ℤ) (s : LineState) (j n : ℕ) → s.number + n ≤ last_number →
     run line_step at s j n ≡ (line_at_step s (s.number + n), ramp_of s.from s.to s.number s.way n)
 line_ramp at s j zero h = ap (λ m. (line_at_step s m, [])) (omega arith)
@@ -113,7 +113,7 @@ line_ramp at s j (suc n) h =
 pub not_zero : (n : ℕ) → (suc n == 0) ≡ false
 not_zero n = grind (arith, nat_tests)
 
--- the rest of an interp's cycle is a ramp
+-- the results of the rest of an interp's cycle are a ramp
 pub interp_ramp : (s : InterpState) (x : ℤ) (j n : ℕ) → s.sample + suc n ≡ s.ksmps →
     run interp_step (λ j. x ∷ []) s j (suc n) ≡ (
       record { ksmps = s.ksmps; before = x; sample = 0 },
@@ -149,7 +149,7 @@ one_on lengths n k begin d p e room =
       inside = λ h. omega arith;
     }
 
--- a linseg's steps within a piece are a ramp
+-- the results of a linseg within one segment are a ramp
 pub linseg_ramp : (at : ℕ → List ℤ) (s : LinsegState) (j n k begin d : ℕ) (here next : ℤ)
     → IsPlace s.lengths s.number k begin → k < length s.lengths → d ≡ slice_index s.lengths k →
     s.number + n ≤ begin + d → here ≡ argument s.values k → next ≡ argument s.values (k + 1)
@@ -180,7 +180,7 @@ linseg_ramp at s j (suc (suc n)) k begin d here next p inside ed room eh en h =
       z ∷ ramp_of here next ((s.number - begin) + 1) d (suc n),
     )) known
 
--- after the last piece they are the last value
+-- the results after the last segment are the last value
 pub linseg_holds : (at : ℕ → List ℤ) (s : LinsegState) (j n k begin : ℕ) (z : ℤ) → IsPlace s.lengths s.number k begin
     → length s.lengths ≤ k → z ≡ argument s.values k → s.number + n ≤ last_number →
     run linseg_step at s j n ≡ (linseg_at_step s (s.number + n), replicate n (clamp z))

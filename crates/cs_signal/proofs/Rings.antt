@@ -1,4 +1,4 @@
--- A list in a ring: as it is filled, and after a new value took the place of the oldest.
+-- A list in a ring: while it is filled, and after a new value replaced the oldest one.
 use Rattle.std.proofs.Common.{◌≡◌, ℕ, zero, suc, ◌+◌, ◌-◌, ◌<◌, ◌≤◌, ◌⊎◌, inl, inr, List, [], ◌∷◌, ◌++◌, length, map}
 use Rattle.std.proofs.Common.{take, drop, replicate, ℤ, pos, refl, ap, sym, ◌∙◌, subst, arith, append_assoc}
 use Rattle.std.proofs.{Common.length-append, Common.length-drop, Math.ListN.drop_of_length-le}
@@ -11,7 +11,8 @@ use Rattle.cs_signal.specs.declared.operand.Operand.TheVariants.{Held}
 use Rattle.cs_signal.specs.inner.Ring.{IsWrapped, in_order, line_in}
 use Rattle.cs_signal.proofs.Walks.{HasRun_none, led}
 
--- as many steps as values leave a line: they are the results, and what came stands behind what stays
+-- if a line begins with `old` and there is one step for each of its values, these values are the results, and
+-- the inputs are appended after the values that stay
 leave : (x : ℕ → ℤ) (old stays : List ℤ) (j : ℕ) → run delay_step (λ j. x j ∷ []) (old ++ stays) j (length old)
     ≡ (stays ++ map x (range_with_len j (length old)), old)
 leave x [] stays j = ap (λ l. (l, [])) (sym (append-nil stays))
@@ -21,7 +22,7 @@ leave x (o ∷ old) stays j =
     ap (λ l. led o (run delay_step (λ j. x j ∷ []) l (j + 1) (length old))) (append_assoc old stays (x j ∷ []))
     ∙ ap (led o) (leave x old next (j + 1)) ∙ ap (λ l. (l, o ∷ old)) (append_assoc stays (x j ∷ []) more)
 
--- how long a list is some of whose items were replaced
+-- the length of a list in which some items were replaced
 pub spliced : (l new : List ℤ) (place count : ℕ) → place + count ≤ length l → length new ≡ count →
     length (take place l ++ (new ++ drop (place + count) l)) ≡ length l
 spliced l new place count room long =
@@ -30,7 +31,7 @@ spliced l new place count room long =
     let more = length-append new (drop (place + count) l) in
     length-append (take place l) (new ++ drop (place + count) l) ∙ omega (arith, first, left, more, long)
 
--- a ring in order is what stands up to a place, and what stands from there on and before the oldest
+-- a ring in order: `count` items from a place on, followed by all other items in order
 parted : (ring : List ℤ) (place count : ℕ) → in_order ring place
     ≡ take count (drop place ring) ++ (drop (place + count) ring ++ take place ring)
 parted ring place count =
@@ -38,7 +39,7 @@ parted ring place count =
     ∙ ap (λ l. take count (drop place ring) ++ l) (drop-drop count place ring))
     ∙ append_assoc (take count (drop place ring)) (drop (place + count) ring) (take place ring)
 
--- the ring after its values from a place on were exchanged, from the place behind them on
+-- a ring in order, from the place after the values that were exchanged
 exchanged_from : (ring new : List ℤ) (place count : ℕ) → place + count ≤ length ring → length new ≡ count →
     in_order (take place ring ++ (new ++ drop (place + count) ring)) (place + count)
     ≡ (drop (place + count) ring ++ take place ring) ++ new
@@ -53,7 +54,7 @@ exchanged_from ring new place count room long =
     ∙ ap (λ l. behind ++ l) (ap (λ n. take n ((before ++ new) ++ behind)) (sym size)
     ∙ take-append_seam (before ++ new) behind) ∙ sym (append_assoc behind before new)
 
--- so many steps of a delay in a ring
+-- `count` steps of a delay in a ring
 pub passed : (x : ℕ → ℤ) (ring : List ℤ) (place count j : ℕ) → place + count ≤ length ring →
     run delay_step (λ j. x j ∷ []) (in_order ring place) j count ≡ (
       in_order (take place ring ++ (map x (range_with_len j count) ++ drop (place + count) ring)) (place + count),
@@ -70,7 +71,7 @@ passed x ring place count j room =
     ∙ ap (λ n. (stays ++ map x (range_with_len j n), old)) long
     ∙ ap (λ l. (l, old)) (sym (exchanged_from ring (map x (range_with_len j count)) place count room new))
 
--- behind its last place a ring begins again
+-- after its last place a ring begins again
 pub wraps : (ring : List ℤ) (place next : ℕ) → IsWrapped place (length ring) next
     → in_order ring place ≡ in_order ring next
 wraps ring place next (inl h) = ap (in_order ring) (sym h.1)
@@ -82,7 +83,7 @@ pub inside_ring : (place len next : ℕ) → place ≤ len → 0 < len → IsWra
 inside_ring place len next h some (inl n) = let off = n.0 in omega (arith, n.1, off, h)
 inside_ring place len next h some (inr n) = omega (arith, n.1, some)
 
--- an operand at the frames of a run
+-- the values of a held operand at the frames of a run
 pub held_run : (value : ℤ) (from count : ℕ)
     → replicate count value ≡ map (operand_at (Held value)) (range_with_len from count)
 held_run value from zero = refl
@@ -95,13 +96,13 @@ row_run values from (suc count) h =
     ap (take (suc count)) (drop_more values from (pos 0) (omega arith))
     ∙ ap (λ l. argument values from ∷ l) (row_run values (from + 1) count (omega arith))
 
--- a vector all of whose items were written
+-- a vector of which all items were written
 pub written : (n : ℕ) (new old : List ℤ) → length new ≡ n → length old ≡ n → take n (new ++ drop (length new) old) ≡ new
 written n new old e f =
     let none : drop (length new) old ≡ [] = drop_of_length-le old (omega (arith, e, f)) in
     ap (λ l. take n (new ++ l)) none ∙ ap (take n) (append-nil new) ∙ take_all n new (omega (arith, e))
 
--- a ring in which nothing has been stored, and one that is full
+-- a ring in which nothing is stored yet, and a ring that is full
 pub none_yet : (count : ℕ) → line_in count [] 0 ≡ replicate count (pos 0)
 none_yet count =
     let e : count - 0 ≡ count = omega arith in
@@ -126,7 +127,7 @@ fills count ring x h =
     ∙ ap (λ l. (z ++ l) ++ x ∷ []) (sym (append-nil ring)) in
     ap (λ l. (l, pos 0)) more ∙ ap (λ n. delay_step (replicate n (pos 0) ++ (ring ++ [])) (x ∷ [])) (sym e)
 
--- all steps of a block whose last frames find the ring full
+-- all steps of a block during which the ring becomes full
 pub goes_round : (at : ℕ → List ℤ) (count oldest filled n next : ℕ) (ring full turned out out' : List ℤ) →
     oldest ≡ 0 → count ≤ length full → length turned ≡ length full →
     HasRun delay_step at (line_in count ring 0) n filled (line_in count full 0) out →
@@ -142,7 +143,7 @@ goes_round at count oldest filled n next ring full turned out out' e long same d
     (subst (λ l. HasRun delay_step at (line_in count ring 0) n filled l out) (full_line count full 0 long) done)
     ∙ ap (λ o. run delay_step at (line_in count ring o) 0 n) (sym e)
 
--- a block all of whose frames find it full
+-- all steps of a block that begins with a full ring
 pub round : (at : ℕ → List ℤ) (count oldest n next : ℕ) (full turned out out' : List ℤ) →
     length out ≡ n → count ≤ length full → length turned ≡ length full →
     ((first : List ℤ) → HasRun delay_step at first n 0 (in_order full oldest) out

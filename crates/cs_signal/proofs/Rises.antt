@@ -1,4 +1,4 @@
--- A straight line by sums in 2^64ths: the parts of a number by an inverse that is rounded up.
+-- A straight line by additions in 2^64ths: a number's parts from an inverse that is rounded up.
 use Rattle.std.proofs.Common.{◌≡◌, ℕ, suc, ◌+◌, ◌-◌, ◌*◌, ◌/◌, ◌%◌, ◌<◌, ◌≤◌, List, [], ◌∷◌, ◌++◌, length, map, ℤ, pos}
 use Rattle.std.proofs.Common.{◌+ℤ◌, ◌-ℤ◌, ◌*ℤ◌, refl, set, unsigned_abs, ◌^◌, ap, sym, ◌∙◌, arith}
 use Rattle.std.proofs.Math.Nat.{add-mul, lt_of_mul-lt-mul_right, mod-lt, mul-add, mul_assoc, mul_comm}
@@ -11,7 +11,7 @@ use Rattle.cs_signal.specs.Line.{part_way}
 use Rattle.cs_signal.specs.inner.Ramp.{HasRisen, IsInverse, IsParted, ramp_of}
 use Rattle.cs_signal.proofs.Ramps.{once_more, spread}
 
--- the inverse that is made is right
+-- the inverse that the code computes is right
 pub inverse_is : (d : ℕ) → 1 ≤ d → IsInverse d (18446744073709551615 / d + 1)
 inverse_is d some =
     let k : ℕ = 18446744073709551615 / d in
@@ -20,7 +20,7 @@ inverse_is d some =
     let more : (k + 1) * d ≡ k * d + 1 * d = add-mul k 1 d in
     (omega (arith, parts, below, more), omega (arith, parts, more))
 
--- a number over a divisor, by an inverse that has `more` 2^64ths of the divisor too many
+-- a number divided by a divisor, through an inverse that is too large by `more` 2^64ths of the divisor
 module _ (over d inverse more : ℕ) (some : 1 ≤ d) (near : inverse * d ≡ 18446744073709551616 + more)
     (few : over * more < 18446744073709551616) where
   abbrev often : ℕ
@@ -38,7 +38,7 @@ module _ (over d inverse more : ℕ) (some : 1 ≤ d) (near : inverse * d ≡ 18
   below : last < d
   below = mod-lt over (omega (arith, some))
 
-  -- so many of the inverse
+  -- k times the inverse
   times : (k : ℕ) → k * inverse * d ≡ k * 18446744073709551616 + k * more
   times k = mul_assoc k inverse d ∙ ap (λ x. k * x) near ∙ mul-add k 18446744073709551616 more
 
@@ -68,7 +68,7 @@ module _ (over d inverse more : ℕ) (some : 1 ≤ d) (near : inverse * d ≡ 18
       let swapped : 18446744073709551616 * d ≡ d * 18446744073709551616 = mul_comm 18446744073709551616 d in
       lt_of_mul-lt-mul_right d (omega (arith, e, b, swapped, few))
 
--- what a number in 2^64ths and the number itself have in common
+-- a number in 2^64ths has the same integer part as the number itself
 pub record IsTold (z from at : ℤ) (d : ℕ) : Type 0 where
   pub by : ℤ
   pub rest : ℕ
@@ -102,7 +102,7 @@ is_told z from at whole d inverse over more some near few told sum =
       };
     }
 
--- of few steps by a short divisor all are told
+-- over few steps with a small divisor, every value in 2^64ths has the right integer part
 pub steps_told : (from to : ℤ) (n d inverse count j : ℕ) (at : ℤ) (out : List ℤ) → 1 ≤ d → d ≤ 2 ^ 26 → j < 4096
     → IsInverse d inverse → HasRisen from to n d inverse count j at out → IsTold ((to -ℤ from) *ℤ pos (n + j)) from at d
 steps_told from to n d inverse count j at out some short early inv h =

@@ -1,4 +1,4 @@
--- A linen in its rise, and in its decay: its factor is a straight line.
+-- A linen in its rise and in its decay: its factor is a straight line.
 use Rattle.std.proofs.Common.{◌≡◌, ℕ, zero, suc, ◌+◌, ◌-◌, ◌%◌, ◌<◌, ◌≤◌, ◌⊎◌, inl, inr, ◌==◌, ◌||◌, nat_le, nat_lt}
 use Rattle.std.proofs.Common.{false, List, [], ◌∷◌, length, map, ℤ, pos, negsuc, ◌+ℤ◌, ◌-ℤ◌, ◌*ℤ◌, if◌then◌else◌, ap}
 use Rattle.std.proofs.{Common.sym, Common.◌∙◌, Common.arith, Math.IntN.*ℤ_comm}
@@ -13,7 +13,7 @@ use Rattle.cs_signal.specs.Linen.{LinenState, linen_step, up_at, down_at}
 use Rattle.cs_signal.proofs.Levels.{linen_at_step, not_falling, risen}
 use Rattle.cs_signal.proofs.{Ramps.floor_is, Ramps.spread, Walks.led}
 
--- steps whose factor is known are the amplitude by it
+-- the results of steps with a known factor are the amplitude times this factor
 linen_by : (x g : ℕ → ℤ) (s : LinenState) (j n : ℕ) → s.number + n ≤ last_number →
     ((i : ℕ) → i < n → product_of (up_at s.rise (s.number + i)) (down_at s.duration s.decay (s.number + i)) ≡ g (j + i))
     → run linen_step (λ j. x j ∷ []) s j n ≡
@@ -62,7 +62,7 @@ rises rise duration decay n below level =
     ap (λ z. product_of z (down_at duration decay n)) up ∙ ap (product_of (floor_div (one *ℤ pos n) (pos rise))) down
     ∙ by_one (floor_div (one *ℤ pos n) (pos rise)) ∙ ap clamp none
 
--- what a quotient rounded down leaves
+-- the remainder of a quotient that is rounded down
 record Rest (z : ℤ) (d : ℕ) : Type 0 where
   part : ℕ
   is : IsParted z d (floor_div z (pos d)) part
@@ -71,7 +71,7 @@ rest_of : (z : ℤ) (d : ℕ) → 0 < d → Rest z d
 rest_of (pos a) d h = record { part = a % d; is = record { sum = omega (arith, ints); below = omega arith } }
 rest_of (negsuc a) d h = record { part = d - 1 - a % d; is = record { sum = omega (arith, ints); below = omega arith } }
 
--- a whole number more
+-- adding an integer before or after rounding down is the same
 floor_more : (z k : ℤ) (d : ℕ) → 0 < d → floor_div (z +ℤ (k *ℤ pos d)) (pos d) ≡ floor_div z (pos d) +ℤ k
 floor_more z k d h =
     let r = rest_of z d h in
@@ -127,7 +127,7 @@ linen_falls x s n m h from =
     ∙ sym (get_or-map-range_with_len (λ k. clamp (part_way one (pos 0) k s.decay)) m n (0 + i) (m + i) (pos 0)
     (omega arith) (omega arith)))
 
--- a pass over a ramp
+-- a pass that multiplies a ramp by an operand
 pub shaped_ramp : (x f : ℕ → ℤ) (a n : ℕ) (ramp out : List ℤ) → ramp ≡ map f (range_with_len a n) →
     out ≡ map (λ j. product_of (x j) (argument ramp j)) (range_with_len 0 (length ramp)) →
     out ≡ map (λ j. product_of (x j) (argument (map f (range_with_len a n)) j)) (range_with_len 0 n)

@@ -1,11 +1,11 @@
--- A loop over the frames of a cycle: its begin, one frame more, and its end.
+-- The invariant of a loop over the frames of a cycle: at its beginning, after one more frame, and at its end.
 use Rattle.std.proofs.Common.{◌≡◌, ℕ, zero, suc, ◌+◌, ◌-◌, ◌<◌, ◌≤◌, List, [], ◌∷◌, ◌++◌, length, take, drop, ℤ, pos}
 use Rattle.std.proofs.Common.{set, get_or, ap, sym, ◌∙◌, subst, arith, append_assoc, length-append, length-drop}
 use Rattle.std.proofs.Math.Seq.{take-append_seam}
 use Rattle.std.proofs.lemmas.List.{length-take-le, take_more_set, length-set, take_all, append-nil, get_or_default}
 use Rattle.cs_signal.specs.{Operands.argument, Steps.run, Walk.HasRun}
 
--- a run with a result before its own
+-- a run with one result before its own results
 abbrev pub led : {S : Type 0} → ℤ → S × List ℤ → S × List ℤ
 led value r = (r.0, value ∷ r.1)
 
@@ -39,7 +39,7 @@ HasRun_step step at first n j s t out y h below e =
     subst (λ r. HasRun step at first n (j + 1) r.0 (set out j r.1)) (sym e)
     (HasRun_more step at first n j s out h below)
 
--- some steps and then others
+-- some steps followed by others
 run_on : {S : Type 0} (step : S → List ℤ → S × ℤ) (at : ℕ → List ℤ) (s : S) (j m k : ℕ) → run step at s j (m + k) ≡ (
   (run step at (run step at s j m).0 (j + m) k).0,
   (run step at s j m).1 ++ (run step at (run step at s j m).0 (j + m) k).1,
@@ -57,7 +57,7 @@ run_on step at s j (suc m) k =
     ap (λ n. ((run step at s j n).0, (run step at s j n).1)) sum ∙ ap (led here.1) (run_on step at here.0 (j + 1) m k)
     ∙ ap (λ i. ((run step at first.0 i k).0, here.1 ∷ (first.1 ++ (run step at first.0 i k).1))) (omega arith)
 
--- many steps more, whose results were put behind the first j
+-- many more steps, whose results were written after the first j
 pub HasRun_many : {S : Type 0} (step : S → List ℤ → S × ℤ) (at : ℕ → List ℤ) (first : S) (n j m : ℕ) (s t : S)
     (out results : List ℤ) → HasRun step at first n j s out → j + m ≤ n → length results ≡ m
     → run step at s j m ≡ (t, results) → HasRun step at first n (j + m) t (take j out ++ (results ++ drop (j + m) out))
@@ -90,6 +90,6 @@ HasRun_end step at first n j s out h e =
     sym (h.rest ∙ ap (λ k. ((run step at s j k).0, take j out ++ (run step at s j k).1)) none
     ∙ ap (λ xs. (s, xs)) (append-nil (take j out) ∙ take_all j out (omega arith)))
 
--- a value that is read from a row is the row's value there
+-- a value that is read from a row is the row's value at this frame
 pub read : (values : List ℤ) (j : ℕ) (z : ℤ) → z ≡ get_or values j z → j < length values → z ≡ argument values j
 read values j z e h = e ∙ get_or_default values j z (pos 0) h

@@ -1,17 +1,17 @@
--- A straight line before its end: its values lie between its ends.
+-- A straight line before its end: its values are between its ends.
 use Rattle.std.proofs.Common.{◌≡◌, ℕ, suc, ◌+◌, ◌*◌, ◌<◌, ◌≤◌, ⊎_elim, ℤ, pos, negsuc, ◌+ℤ◌, ◌-ℤ◌, ◌*ℤ◌, ◌≤ℤ◌, to_z}
 use Rattle.std.proofs.Common.{of_z, w64, refl, subst, arith}
 use Rattle.std.proofs.lemmas.{Bool.cases_lt, Int.ints, Nat.mul-le}
 use Rattle.cs_base.specs.Numbers.{IsRaw}
 use Rattle.cs_signal.specs.inner.Ramp.{IsParted}
 
--- a is at least b, where b + 1 times d is more than a times d and a rest
+-- a is at least b, because (b + 1) * d exceeds a * d plus a remainder
 at_most : (a b d rest : ℕ) → b * d ≤ a * d + rest → rest < d → b ≤ a
 at_most a b d rest h below = ⊎_elim
     (λ p. let more : suc a * d ≤ b * d = mul-le (suc a) d b d p (omega arith) in absurd (omega arith))
     (λ p. p) (cases_lt a b)
 
--- part m of d of the way up by a is from 0 to a
+-- m / d of the way up by a is from 0 to a
 up : (a m d rest : ℕ) (w : ℤ) → m ≤ d → IsParted (pos a *ℤ pos m) d w rest → (pos 0 ≤ℤ w) × (w ≤ℤ pos a)
 up a m d rest (pos b) h p =
     let sum = p.sum in
@@ -24,7 +24,7 @@ up a m d rest (negsuc b) h p =
     let big : 1 * d ≤ suc b * d = mul-le 1 d (suc b) d (omega arith) (omega arith) in
     absurd (omega (arith, ints))
 
--- part m of d of the way down by a + 1 is from 0 down to that
+-- m / d of the way down by a + 1 is from 0 to -(a + 1)
 down : (a m d rest : ℕ) (w : ℤ) → m ≤ d → IsParted (negsuc a *ℤ pos m) d w rest → (negsuc a ≤ℤ w) × (w ≤ℤ pos 0)
 down a m d rest (pos b) h p =
     let sum = p.sum in
@@ -57,6 +57,6 @@ pub parts_of_value : (z from whole value : ℤ) (d rest : ℕ) → value ≡ fro
 parts_of_value z from whole value d rest e p =
     let same : whole ≡ value -ℤ from = omega (arith, ints) in subst (λ w. IsParted z d w rest) same p
 
--- a value in range by its bits
+-- a value in range is unchanged as a 64-bit number
 pub same_bits : (z : ℤ) → IsRaw z → to_z w64 (of_z w64 z) ≡ z
 same_bits z h = let low = h.0 in let high = h.1 in omega (arith, ints)

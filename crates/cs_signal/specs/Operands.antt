@@ -1,9 +1,9 @@
--- What a unit is given: its arguments, and these over a control cycle.
+-- The arguments of a unit, and their values over a control cycle.
 use Rattle.std.specs.Prelude.{ℕ, ◌≡◌, ◌<◌, List, length, map, ℤ, pos, slice_index_or}
 use Rattle.cs_signal.specs.declared.operand.Operand.{Operand}
 use Rattle.cs_signal.specs.declared.operand.Operand.TheVariants.{Held, Row}
 
--- an argument by its place, counted from 0; one that is missing is 0
+-- the argument at place k, counted from 0; a missing one is 0
 abbrev pub argument : List ℤ → ℕ → ℤ
 argument arguments k = slice_index_or arguments k (pos 0)
 
@@ -22,6 +22,6 @@ abbrev pub Reaches : ℕ → Operand → Type 0
 Reaches j (Held value) = Unit {0}
 Reaches j (Row values) = j < length values.now
 
--- the inputs of a step at frame j, by its operands
+-- the inputs of a step at frame j, read from its operands
 abbrev pub inputs_at : List Operand → ℕ → List ℤ
 inputs_at operands j = map (λ x. operand_at x j) operands

@@ -1,8 +1,9 @@
--- A loop over the frames of a cycle, between two of them.
+-- The invariant of a loop over the frames of a cycle.
 use Rattle.std.specs.Prelude.{ℕ, ◌≡◌, ◌-◌, List, ◌++◌, length, take, ℤ}
 use Rattle.cs_signal.specs.Steps.{run}
 
--- of n frames the first j are done: the unit is s, and what is to come, behind what stands in `out`, is the whole run
+-- the first j of n frames are done and the unit is s; the frames written to `out` and the remaining steps
+-- together make up the complete run
 pub record HasRun {S : Type 0} (step : S → List ℤ → S × ℤ) (at : ℕ → List ℤ) (first : S) (n j : ℕ) (s : S)
     (out : List ℤ) : Type 0 where
   pub long : length out ≡ n

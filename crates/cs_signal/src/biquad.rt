@@ -1,4 +1,4 @@
-// `biquad`: a filter of two zeros and two poles, by whole numbers.
+// `biquad`: a filter with two zeros and two poles, computed with integers.
 ghost use Rattle.std.specs.Prelude.{true, ◌≡◌, ◌≢◌, ◌<◌, ◌≤◌, ◌+◌, ◌^◌, length, pos, ◌≤ℤ◌, ◌+ℤ◌};
 ghost use Rattle.std.specs.{Prelude.◌-ℤ◌, Prelude.◌*ℤ◌, Prelude.unsigned_abs, Int.int_div_euclid};
 ghost use Rattle.cs_base.specs.Numbers.{IsRaw, clamp, floor_div, quotient_by_zero};
@@ -14,7 +14,8 @@ use crate::stepwise::frame_by_frame;
 use cs_base::{Divisor, Num, ONE};
 use std::marker::Model;
 
-/// A `biquad` of a note: its last two inputs and results, the later first, 0 before the first step.
+/// The state of a `biquad`: its last two inputs and results, the later first. All are 0 before the first
+/// step.
 #[derive(Clone, Copy)]
 pub struct Biquad {
     x1: Num,
@@ -23,8 +24,8 @@ pub struct Biquad {
     y2: Num,
 }
 
-/// The coefficients of a step: `b0`, `b1` and `b2` of its input and the two before it, `a1` and `a2` of the two results
-/// before, and `a0`, by which the sum of the products is divided.
+/// The coefficients of a step. `b0`, `b1` and `b2` multiply its input and the two inputs before; `a1` and
+/// `a2` multiply the two previous results; `a0` divides the sum of the products.
 #[derive(Clone, Copy)]
 pub struct Coefficients {
     pub b0: Num,
@@ -46,7 +47,7 @@ impl Model for Biquad {
 }
 
 impl Biquad {
-    /// One that has no step behind it.
+    /// The initial state.
     pub fn start() -> Biquad
         ensures { result ≡ record { x1 = pos 0; x2 = pos 0; y1 = pos 0; y2 = pos 0 } }
     {
@@ -58,8 +59,8 @@ impl Biquad {
         }
     }
 
-    // One step: the sum of the products of `b0`, `b1`, `b2` with the input and the two before it, less those of `a1`
-    // and `a2` with the two results before, by `a0`.
+    // One step: the products of `b0`, `b1` and `b2` with the input and the two inputs before, minus the
+    // products of `a1` and `a2` with the two previous results, divided by `a0`.
     #[inline(always)]
     fn step(&mut self, x: Num, by: &Coefficients) -> Num
         ensures { (self.new, result) ≡ biquad_step self.old (inputs_by x by.now) }
@@ -69,7 +70,7 @@ impl Biquad {
         y
     }
 
-    // What it keeps after a step of this input and result.
+    // Records the input and the result of a step.
     #[inline(always)]
     fn follow(&mut self, x: Num, y: Num)
         ensures { self.new ≡ record { x1 = x; x2 = self.old.x1; y1 = y; y2 = self.old.y1 } }
@@ -80,7 +81,7 @@ impl Biquad {
         self.y1 = y;
     }
 
-    // A step for each frame, by coefficients that stay.
+    // One step for each frame, with constant coefficients.
     fn held(&mut self, x: &[Num], by: &Coefficients, out: &mut [Num])
         requires x { length x.now ≡ length out.old }
         requires above { pos 1 ≤ℤ by.now.a0 }
@@ -93,7 +94,7 @@ impl Biquad {
         }
     }
 
-    // The steps up to the first signal that is long, by sums of 64 bits; the result is their number.
+    // Computes steps with 64-bit sums, up to the first signal that is too large. Returns the number of steps.
     #[inline(never)]
     fn near_steps(&mut self, x: &[Num], by: &Coefficients, out: &mut [Num]) -> usize
         requires x { length x.now ≡ length out.old }
@@ -125,7 +126,7 @@ impl Biquad {
         out.len()
     }
 
-    // Whether sums are of 64 bits, if the input is short too.
+    // Whether 64-bit sums suffice if the input is short too.
     fn is_near(&self, by: &Coefficients) -> bool
         ensures { result ≡ true → AreSmall by.now × AreShort self.now }
     {
@@ -140,7 +141,7 @@ impl Biquad {
             && is_short(self.y2)
     }
 
-    // What is divided.
+    // The sum that is divided.
     #[inline(always)]
     fn wide_sum(&self, x: Num, by: &Coefficients) -> i128
         ensures value { result ≡ sum_of by.now self.now x }
@@ -152,8 +153,8 @@ impl Biquad {
         )
     }
 
-    // The same, where all factors are below 2,048 and all signals below 32,768, so that no sum has over 61 bits: the
-    // compiler then makes all of it in 64.
+    // The sum that is divided, if all factors are below 2,048 and all signals below 32,768. No sum then
+    // exceeds 61 bits, and the compiler computes everything in 64 bits.
     #[inline(always)]
     fn short_sum(&self, x: Num, by: &Coefficients) -> i64
         requires small { AreSmall by.now }
@@ -214,14 +215,14 @@ impl Generator for Biquad {
     }
 }
 
-// Whether a coefficient is below 2,048.
+// Whether a coefficient is small enough for 64-bit sums: its absolute value is at most 2,048.
 fn is_small(c: Num) -> bool
     ensures { result ≡ true → IsSmall c }
 {
     -(1 << 27) <= c.raw() && c.raw() <= 1 << 27
 }
 
-// Whether a signal is below 32,768.
+// Whether a signal is small enough for 64-bit sums: its absolute value is at most 32,768.
 #[inline(always)]
 fn is_short(x: Num) -> bool
     ensures { result ≡ true → IsShort x }
@@ -229,8 +230,8 @@ fn is_short(x: Num) -> bool
     -(1 << 31) <= x.raw() && x.raw() < 1 << 31
 }
 
-// The quotient, rounded down and brought into range. By one, as most filters have it, a shift does: the next step waits
-// for it.
+// The quotient, rounded down and clamped. Division by 1, as most filters have it, is a shift, because the
+// next step waits for this result.
 #[inline(always)]
 fn divided(n: i64, a0: Num, divisor: Divisor) -> Num
     requires bounded { unsigned_abs n < 2 ^ 61 }
@@ -244,7 +245,7 @@ fn divided(n: i64, a0: Num, divisor: Divisor) -> Num
     }
 }
 
-// A quotient brought into range. Mostly it is short, so a test comes first.
+// A quotient, clamped. Most quotients are in range, so a test comes first.
 #[inline(always)]
 fn bounded(quotient: i64) -> Num
     ensures { result ≡ clamp quotient }
@@ -276,7 +277,7 @@ fn products(a: Num, x: Num, b: Num, y: Num) -> i128
     plus(product(a, x), product(b, y))
 }
 
-// The exact product, of 94 bits: three of them less two have 97.
+// The exact product, of 94 bits. Three products minus two have 97 bits.
 #[inline(always)]
 fn product(x: Num, y: Num) -> i128
     ensures value { result ≡ x *ℤ y }
@@ -285,7 +286,7 @@ fn product(x: Num, y: Num) -> i128
     i128::from(x.raw()) * i128::from(y.raw())
 }
 
-// The quotient, rounded down and brought into range; by 0 as in a division.
+// The quotient, rounded down and clamped. Division by 0 follows the rule of the language's `/`.
 #[inline(always)]
 fn ratio(n: i128, d: i64) -> Num
     requires bounded { unsigned_abs n < 2 ^ 97 }
@@ -313,7 +314,8 @@ fn floored(n: i128, d: i64) -> i128
     }
 }
 
-// The quotient by a divisor above 0, rounded down; where both fit into 64 bits a short division does.
+// The quotient by a positive divisor, rounded down. If both numbers fit into 64 bits, it is a 64-bit
+// division.
 #[inline(always)]
 fn quotient(n: i128, d: i64) -> i128
     requires { pos 1 ≤ℤ d }

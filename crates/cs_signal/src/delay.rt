@@ -1,4 +1,4 @@
-// `delay`: its input of a fixed number of samples ago.
+// `delay`: its input from a fixed number of samples ago.
 ghost use Rattle.std.specs.Prelude.{ℤ, ◌≡◌, ◌<◌, ◌≤◌, ◌+◌, ◌∷◌, ◌++◌, [], List, IfOk, length, vec_capacity, drop, map};
 ghost use Rattle.std.specs.{Prelude.replicate, Prelude.take, List.range_with_len};
 ghost use Rattle.cs_base.specs.{Heads.header_of_head, declared.resource.Rate.Rate};
@@ -14,8 +14,8 @@ use cs_base::{Head, Num};
 use std::alloc::{AllocError, Global};
 use std::marker::Model;
 
-/// A `delay` of a note: `count` values in a ring, and the place of the oldest. The ring has memory for all of them from
-/// the start on, and is written as sound comes: what it doesn't have yet is 0.
+/// The state of a `delay`: a ring of `count` values, and the place of the oldest. Memory for all of them is
+/// allocated at the start, and values are written as sound arrives. A value that isn't written yet is 0.
 #[derive(Drop)]
 pub struct Delay {
     ring: Vec<Num>,
@@ -35,7 +35,8 @@ impl Model for Delay {
 }
 
 impl Delay {
-    /// One that has no step behind it, from its settled argument, the time. It has memory for its samples and no more.
+    /// The initial state, from the i-rate argument, which is the delay time. It allocates memory for
+    /// exactly its samples.
     #[tactic(auto, using(crate::proofs::Rings::none_yet))]
     pub fn start(alloc: Global, head: &Head, init: &[Num]) -> Result<Delay, AllocError>
         ensures { (rate : Rate)
@@ -50,7 +51,7 @@ impl Delay {
         })
     }
 
-    // A step for each frame of `out`.
+    // One step for each frame of `out`.
     fn block(&mut self, x: &Operand, out: &mut [Num])
         requires { Lasts (length out.old) x.now }
         ensures { (self.new, out.new) ≡ run delay_step (λ j. operand_at x.now j ∷ []) self.old 0 (length out.old) }
@@ -62,7 +63,7 @@ impl Delay {
 impl Stepper for Delay {
     ghost step = { delay_step };
 
-    // One step: the oldest value, in whose place the new one comes.
+    // One step: returns the oldest value, and stores the new value in its place.
     fn tick(&mut self, inputs: &[Num]) -> Num {
         let mut out = [Num::of_raw(0)];
         self.block(&Operand::Held(argument(inputs, 0)), &mut out);
@@ -81,7 +82,7 @@ impl Generator for Delay {
     }
 }
 
-// A step for each frame of `out`; the result is the place of the oldest value.
+// One step for each frame of `out`. Returns the place of the oldest value.
 fn pass(ring: &mut Vec<Num>, count: usize, oldest: usize, x: &Operand, out: &mut [Num]) -> usize
     requires ring { IsRing count ring.old.items (vec_capacity ring.old) oldest }
     requires last { Lasts (length out.old) x.now }
@@ -96,7 +97,7 @@ fn pass(ring: &mut Vec<Num>, count: usize, oldest: usize, x: &Operand, out: &mut
     }
 }
 
-// The same where the ring isn't full yet.
+// One step for each frame of `out`, if the ring isn't full yet. Returns the place of the oldest value.
 fn filled_on(ring: &mut Vec<Num>, count: usize, x: &Operand, out: &mut [Num]) -> usize
     requires some { length ring.old.items < count }
     requires memory { count ≤ vec_capacity ring.old }
@@ -113,7 +114,7 @@ fn filled_on(ring: &mut Vec<Num>, count: usize, x: &Operand, out: &mut [Num]) ->
     }
 }
 
-// The first steps, as long as the ring isn't full: their results are 0. The result is their number.
+// The first steps, until the ring is full. Their results are 0. Returns the number of these steps.
 fn fill(ring: &mut Vec<Num>, count: usize, x: &Operand, out: &mut [Num]) -> usize
     requires some { length ring.old.items < count }
     requires memory { count ≤ vec_capacity ring.old }
@@ -131,8 +132,8 @@ fn fill(ring: &mut Vec<Num>, count: usize, x: &Operand, out: &mut [Num]) -> usiz
     filled
 }
 
-// The steps from a frame on, in a full ring whose oldest value has this place, run by run up to the ring's end; the
-// result is the place of the oldest value after them.
+// The steps from frame `from` on, in a full ring whose oldest value is at place `oldest`. Whole runs up to
+// the ring's end are copied. Returns the place of the oldest value after these steps.
 fn turned(ring: &mut [Num], oldest: usize, x: &Operand, from: usize, out: &mut [Num]) -> usize
     requires oldest { oldest < length ring.old }
     requires last { Lasts (length out.old) x.now }
@@ -155,7 +156,8 @@ fn turned(ring: &mut [Num], oldest: usize, x: &Operand, from: usize, out: &mut [
     place
 }
 
-// So many values leave the ring, from a place on, and others from a frame on come into their places.
+// Exchanges a run of values: the values from place `place` on leave the ring, and the values from a frame on
+// replace them.
 fn exchanged(
     ring: &mut [Num],
     place: usize,
@@ -193,7 +195,7 @@ fn put(ring: &mut [Num], place: usize, count: usize, values: &[Num])
     ring[place..place + count].copy_from_slice(values);
 }
 
-// A place in a ring, of which the one behind the last is the first.
+// A place in a ring, in which the first place follows the last.
 fn wrapped(place: usize, len: usize) -> usize
     ensures { IsWrapped place len result }
 {

@@ -1,4 +1,4 @@
-// `diff`: how much its input has risen since the step before.
+// `diff`: the increase of its input since the previous step.
 ghost use Rattle.std.specs.Prelude.{◌≡◌, pos};
 ghost use Rattle.cs_signal.specs.Diff.{diff_step};
 
@@ -9,7 +9,7 @@ use crate::stepwise::step_by_step;
 use cs_base::Num;
 use std::marker::Model;
 
-/// A `diff` of a note: the input of the step before, 0 before the first.
+/// The state of a `diff`: the previous input, 0 before the first step.
 #[derive(Clone, Copy)]
 pub struct Diff {
     before: Num,
@@ -26,7 +26,7 @@ impl Model for Diff {
 }
 
 impl Diff {
-    /// One that has no step behind it.
+    /// The initial state.
     pub fn start() -> Diff
         ensures { result ≡ pos 0 }
     {
@@ -39,7 +39,7 @@ impl Diff {
 impl Stepper for Diff {
     ghost step = { diff_step };
 
-    // One step: this value less the one before.
+    // One step: this value minus the previous one.
     #[inline(always)]
     fn tick(&mut self, inputs: &[Num]) -> Num {
         let x = argument(inputs, 0);

@@ -1,4 +1,4 @@
-// `downsamp`: a sound as a control value, by the first sample of each control cycle.
+// `downsamp`: an audio signal as a control value, the first sample of each control cycle.
 ghost use Rattle.std.specs.Prelude.{◌≡◌};
 ghost use Rattle.cs_signal.specs.Downsamp.{downsamp_step};
 
@@ -9,7 +9,7 @@ use crate::stepwise::step_by_step;
 use cs_base::Num;
 use std::marker::Model;
 
-/// A `downsamp` of a note, which keeps nothing.
+/// The state of a `downsamp`, which is empty.
 #[derive(Clone, Copy)]
 pub struct Downsamp {}
 
@@ -22,7 +22,7 @@ impl Model for Downsamp {
 }
 
 impl Downsamp {
-    /// One that has no step behind it.
+    /// The initial state.
     pub fn start() -> Downsamp
         ensures { result ≡ tt }
     {
@@ -33,7 +33,7 @@ impl Downsamp {
 impl Stepper for Downsamp {
     ghost step = { downsamp_step };
 
-    // One step, which is a control cycle: `x` is the cycle's first sample, and the result.
+    // One step, which is a control cycle. Its input is the cycle's first sample, which is also the result.
     #[inline(always)]
     fn tick(&mut self, inputs: &[Num]) -> Num {
         argument(inputs, 0)

@@ -9,7 +9,7 @@ use crate::stepwise::step_by_step;
 use cs_base::Num;
 use std::marker::Model;
 
-/// An `integ` of a note: the sum so far.
+/// The state of an `integ`: the sum so far.
 #[derive(Clone, Copy)]
 pub struct Integ {
     sum: Num,
@@ -26,7 +26,7 @@ impl Model for Integ {
 }
 
 impl Integ {
-    /// One that has no step behind it.
+    /// The initial state.
     pub fn start() -> Integ
         ensures { result ≡ pos 0 }
     {
@@ -39,7 +39,7 @@ impl Integ {
 impl Stepper for Integ {
     ghost step = { integ_step };
 
-    // One step: the sum with this value.
+    // One step: adds this value to the sum.
     #[inline(always)]
     fn tick(&mut self, inputs: &[Num]) -> Num {
         self.sum = self.sum.add(argument(inputs, 0));

@@ -1,4 +1,5 @@
-// `interp`: a control value as a sound, on a straight line from one control cycle's value to the next.
+// `interp`: a control value as an audio signal, along a straight line from one control cycle's value to the
+// next.
 ghost use Rattle.std.specs.Prelude.{◌≡◌, List, ℤ};
 ghost use Rattle.cs_base.specs.{Heads.header_of_head, declared.resource.Rate.Rate};
 ghost use Rattle.cs_signal.specs.{Interp.interp_start, Interp.interp_step, Pace.pace_of};
@@ -12,8 +13,8 @@ use crate::stepwise::frame_by_frame;
 use cs_base::{Head, Num};
 use std::marker::Model;
 
-/// An `interp` of a note: the samples of a control cycle, the value of the cycle before, which is 0 before the first,
-/// and the place in its cycle of the sample to come.
+/// The state of an `interp`: the samples per control cycle, the previous cycle's value (0 at first), and the
+/// position of the next sample in its cycle.
 #[derive(Drop)]
 pub struct Interp {
     ksmps: u64,
@@ -33,7 +34,7 @@ impl Model for Interp {
 }
 
 impl Interp {
-    /// One that has no step behind it.
+    /// The initial state.
     pub fn start(head: &Head) -> Interp
         ensures { (rate : Rate) (init : List ℤ) → result ≡ interp_start rate (pace_of (header_of_head head.now)) init }
     {
@@ -48,7 +49,7 @@ impl Interp {
 impl Stepper for Interp {
     ghost step = { interp_step };
 
-    // One step, whose input is the value of the control cycle.
+    // One step. Its input is the value of the control cycle.
     fn tick(&mut self, inputs: &[Num]) -> Num {
         let x = argument(inputs, 0);
         let value = part_way(self.before, x, self.sample + 1, self.ksmps);
@@ -63,7 +64,7 @@ impl Stepper for Interp {
 impl Generator for Interp {
     ghost moving = { 1 };
 
-    // All at once where the steps are a whole control cycle of one value.
+    // A complete control cycle with one value is computed as one ramp.
     fn render(&mut self, inputs: &[Operand], out: &mut [Num]) {
         match &inputs[0] {
             Operand::Held(x) if self.sample == 0 && out.len() as u64 == self.ksmps => {

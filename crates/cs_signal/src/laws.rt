@@ -1,12 +1,13 @@
-// What the formulas give: a call that does nothing, whose contract is the law.
+// Worked examples of the formulas. The function does nothing; its contract states the examples.
 ghost use Rattle.std.specs.Prelude.{◌≡◌, [], ◌∷◌, ◌++◌, replicate, pos, negsuc};
 ghost use Rattle.cs_base.specs.declared.resource.Rate.TheVariants.{Audio, Control};
 ghost use Rattle.cs_signal.specs.{Biquad.biquad_of, Delay.delay_of, Diff.diff_of, Downsamp.downsamp_of, Integ.integ_of};
 ghost use Rattle.cs_signal.specs.{Interp.interp_of, Limit.limit_of, Line.line_of, Linen.linen_of, Linseg.linseg_of};
 ghost use Rattle.cs_signal.specs.{Samphold.samphold_of, Steps.results_by};
 
-/// The examples of docs/LANGUAGE.md at 8 frames a second and 4 a control cycle, and one of each formula that it has no
-/// example of, computed by the formulas: a step's inputs are a list, and one without inputs is an empty list.
+/// The examples of docs/LANGUAGE.md at 8 frames a second and 4 frames a control cycle, and one example of
+/// each formula that has none there. A step's inputs are a list, which is empty for a unit without moving
+/// arguments.
 pub fn worked_examples()
     ensures line { results_by line_of Audio (record { sr = 8; ksmps = 4 }) (pos 0 ∷ pos 65536 ∷ pos 65536 ∷ [])
         (replicate 10 [])

@@ -1,13 +1,14 @@
-//! The units of lines, delays, filters and holds, and what units of every opcode share.
+//! The units of lines, delays, filters and holds, and the traits that units of all opcodes share.
 //!
-//! The one contract: a unit's `start` is its opcode's `.._start` of specs/, its `tick` one `.._step`, and its `render`
-//! a run of such steps (`Generator`). That these return the opcode's formula over all inputs so far is a law of cs_ugen
-//! for every opcode (`units_meet_their_formulas`), by the lemmas of proofs/Formulas. How a unit keeps what it has to
-//! remember, and how a block of frames is computed faster than step by step, may be changed without anyone above
-//! noticing; the formulas may not.
+//! Its one contract: a unit's `start` is its opcode's `.._start` in specs/, its `tick` is one `.._step`, and
+//! its `render` is a run of such steps (`Generator`). A law of cs_ugen states for every opcode that these
+//! steps return the opcode's formula over all inputs so far (`units_meet_their_formulas`, proved with the
+//! lemmas of proofs/Formulas). The state that a unit stores, and the way a block of frames is computed faster
+//! than step by step, may be changed without anyone above noticing. The formulas may not.
 //!
-//! Modules in reading order: `pace` (times in steps), `operand` (inputs over a control cycle), `generator` (what a unit
-//! does), `laws` (examples); then a module an opcode, `ramp` (many steps of a straight line by sums alone).
+//! In reading order: `pace` (times in steps), `operand` (inputs over a control cycle), `generator` (the
+//! traits of units), `laws` (examples). Each opcode has a module. `ramp` computes many steps of a straight
+//! line by additions alone.
 #![tactic(auto)]
 
 mod biquad;

@@ -1,4 +1,4 @@
-// `limit`: its input brought between two bounds.
+// `limit`: its input clamped between two bounds.
 ghost use Rattle.std.specs.Prelude.{◌≡◌, pos, ◌+ℤ◌};
 ghost use Rattle.cs_base.specs.Numbers.{IsRaw, floor_div};
 ghost use Rattle.cs_signal.specs.Limit.{limit_step, limited};
@@ -10,7 +10,7 @@ use crate::stepwise::step_by_step;
 use cs_base::Num;
 use std::marker::Model;
 
-/// A `limit` of a note, which keeps nothing.
+/// The state of a `limit`, which is empty.
 #[derive(Clone, Copy)]
 pub struct LimitUnit {}
 
@@ -23,7 +23,7 @@ impl Model for LimitUnit {
 }
 
 impl LimitUnit {
-    /// One that has no step behind it.
+    /// The initial state.
     pub fn start() -> LimitUnit
         ensures { result ≡ tt }
     {
@@ -34,7 +34,8 @@ impl LimitUnit {
 impl Stepper for LimitUnit {
     ghost step = { limit_step };
 
-    // One step: the value brought between `low` and `high`, and the middle of the two where `low` is above `high`.
+    // One step: the value clamped between `low` and `high`, or the midpoint of the two if `low` is above
+    // `high`.
     #[inline(always)]
     fn tick(&mut self, inputs: &[Num]) -> Num {
         limited(

@@ -1,4 +1,4 @@
-// `line`: a straight line through two values, without end.
+// `line`: a straight line through two values, which never ends.
 ghost use Rattle.std.specs.Prelude.{◌≡◌, ◌<◌, ◌≤◌, ◌+◌, ◌^◌, pos, ◌+ℤ◌, ◌-ℤ◌, ◌*ℤ◌, unsigned_abs};
 ghost use Rattle.cs_base.specs.{Heads.header_of_head, Numbers.IsRaw, Numbers.clamp, Numbers.floor_div};
 ghost use Rattle.cs_signal.specs.Line.{LineState, line_start, line_step, part_way};
@@ -12,7 +12,7 @@ use crate::stepwise::frame_by_frame;
 use cs_base::{Head, Num, Rate};
 use std::marker::Model;
 
-/// A `line` of a note: its way, and the number of the step to come.
+/// The state of a `line`: its two values, its duration in steps, and the number of the next step.
 #[derive(Drop)]
 pub struct LineUnit {
     from: Num,
@@ -33,7 +33,7 @@ impl Model for LineUnit {
 }
 
 impl LineUnit {
-    /// One that has no step behind it, from its settled arguments: the first value, the duration, the second value.
+    /// The initial state, from the i-rate arguments: the first value, the duration, the second value.
     pub fn start(rate: Rate, head: &Head, init: &[Num]) -> LineUnit
         ensures { result ≡ line_start rate (pace_of (header_of_head head.now)) init.now }
     {
@@ -70,7 +70,7 @@ impl Generator for LineUnit {
     }
 }
 
-/// The value at part `n` of `d` of the way from one value to another, rounded down and brought into range.
+/// The value at `n` / `d` of the way from `from` to `to`, rounded down and clamped.
 pub(crate) fn part_way(from: Num, to: Num, n: u64, d: u64) -> Num
     requires some { 1 ≤ d }
     requires number { n ≤ last_number }
@@ -79,7 +79,7 @@ pub(crate) fn part_way(from: Num, to: Num, n: u64, d: u64) -> Num
     raised(from, quotient(times(rise(from, to), n), d))
 }
 
-// A value that is raised, brought into range.
+/// The sum of a value and a rise, clamped.
 #[inline(always)]
 pub(crate) fn raised(from: Num, by: i128) -> Num
     requires { unsigned_abs by < 2 ^ 120 }
@@ -88,7 +88,7 @@ pub(crate) fn raised(from: Num, by: i128) -> Num
     Num::of_wide(i128::from(from.raw()) + by)
 }
 
-// How far it is from one value to another.
+/// The difference from one value to another.
 pub(crate) fn rise(from: Num, to: Num) -> i64
     ensures value { result ≡ to -ℤ from }
     ensures bounded { unsigned_abs result < 2 ^ 48 }
@@ -97,7 +97,7 @@ pub(crate) fn rise(from: Num, to: Num) -> i64
     to.raw() - from.raw()
 }
 
-// So many parts of a rise: a product of 48 and 63 bits.
+/// `n` times a rise, a product of a 48-bit and a 63-bit number.
 pub(crate) fn times(rise: i64, n: u64) -> i128
     requires number { n ≤ last_number }
     requires bounded { unsigned_abs rise < 2 ^ 48 }
@@ -113,7 +113,7 @@ pub(crate) fn quotient(n: i128, d: u64) -> i128
     ensures value { result ≡ floor_div n (pos d) }
     ensures bounded { unsigned_abs result ≤ unsigned_abs n }
 {
-    // Where both fit into 64 bits, a short division does.
+    // If both numbers fit into 64 bits, a 64-bit division is enough.
     if i64::MIN as i128 <= n && n <= i64::MAX as i128 && d <= i64::MAX as u64 {
         i128::from((n as i64).div_euclid(d as i64))
     } else {

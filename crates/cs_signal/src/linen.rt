@@ -1,4 +1,4 @@
-// `linen`: an amplitude under a straight rise and a straight decay.
+// `linen`: an amplitude with a straight rise and a straight decay.
 ghost use Rattle.std.specs.Prelude.{◌≡◌, ◌<◌, ◌≤◌, ◌*◌, ◌/◌, ◌^◌, ◌∷◌, [], true, length, map, pos, ◌-ℤ◌, ◌*ℤ◌};
 ghost use Rattle.std.specs.{Prelude.unsigned_abs, List.range_with_len};
 ghost use Rattle.cs_base.specs.Heads.{header_of_head};
@@ -16,7 +16,7 @@ use crate::stepwise::frame_by_frame;
 use cs_base::{Head, Num, ONE, Rate};
 use std::marker::Model;
 
-/// A `linen` of a note: its times in steps, and the number of the step to come.
+/// The state of a `linen`: its times in steps, and the number of the next step.
 #[derive(Drop)]
 pub struct Linen {
     rise: u64,
@@ -43,7 +43,7 @@ impl Model for Linen {
 }
 
 impl Linen {
-    /// One that has no step behind it, from its settled arguments: the times of rise, duration and decay.
+    /// The initial state, from the i-rate arguments: the times of rise, duration and decay.
     pub fn start(rate: Rate, head: &Head, init: &[Num]) -> Linen
         ensures { result ≡ linen_start rate (pace_of (header_of_head head.now)) init.now }
     {
@@ -55,7 +55,7 @@ impl Linen {
         }
     }
 
-    // Whether the next `count` steps lie in the rise, and before the decay.
+    // Whether the next `count` steps are in the rise, before the decay begins.
     fn rises(&self, count: u64) -> bool
         ensures { result ≡ true → IsRising self.now count }
     {
@@ -64,7 +64,7 @@ impl Linen {
             && (self.decay == 0 || self.number + count + self.decay <= self.duration)
     }
 
-    // Whether the next `count` steps lie in the decay, and after the rise.
+    // Whether the next `count` steps are in the decay, after the rise has ended.
     fn falls(&self, count: u64) -> bool
         ensures { result ≡ true → IsFalling self.now count }
     {
@@ -75,7 +75,7 @@ impl Linen {
             && self.number <= self.duration
     }
 
-    // Whether the next `count` steps lie after the rise and before the decay.
+    // Whether the next `count` steps are after the rise and before the decay.
     fn is_level(&self, count: u64) -> bool
         ensures { result ≡ true → IsLevel self.now count }
     {
@@ -99,7 +99,7 @@ impl Stepper for Linen {
 impl Generator for Linen {
     ghost moving = { 1 };
 
-    // All at once where the steps lie in one part.
+    // Steps that are all in one part are computed together.
     fn render(&mut self, inputs: &[Operand], out: &mut [Num]) {
         let count = out.len() as u64;
         match inputs {
@@ -128,7 +128,7 @@ impl Generator for Linen {
     }
 }
 
-// The amplitude while both factors are one.
+// The amplitude while both factors are 1.
 fn level(x: &Operand, out: &mut [Num])
     requires { Lasts (length out.old) x.now }
     ensures { out.new ≡ map (λ j. product_of (operand_at x.now j) one) (range_with_len 0 (length out.old)) }
@@ -139,7 +139,7 @@ fn level(x: &Operand, out: &mut [Num])
     }
 }
 
-// A number by one is itself.
+// A number times 1, which is the number itself.
 #[inline(always)]
 fn by_one(x: Num) -> Num
     ensures { result ≡ product_of x one }
@@ -147,7 +147,8 @@ fn by_one(x: Num) -> Num
     Num::exact(x.raw())
 }
 
-// The amplitude under the steps of a straight line between two factors, from `number` on.
+// The amplitude times the factors of a straight line from `from` to `to`, beginning at step `number` of
+// `steps`.
 fn slope(x: &Operand, from: Num, to: Num, number: u64, steps: u64, out: &mut [Num])
     requires last { Lasts (length out.old) x.now }
     requires some { 1 ≤ steps }
@@ -159,7 +160,7 @@ fn slope(x: &Operand, from: Num, to: Num, number: u64, steps: u64, out: &mut [Nu
     shape(x, out);
 }
 
-// The amplitude by factors, which `out` has.
+// Multiplies each factor in `out` by the amplitude.
 fn shape(x: &Operand, out: &mut [Num])
     requires { Lasts (length out.old) x.now }
     ensures { out.new
@@ -171,7 +172,8 @@ fn shape(x: &Operand, out: &mut [Num])
     }
 }
 
-// The product of a number and a factor, which mostly lies from 0 below one: then it fits into 64 bits, and is in range.
+// The product of a number and a factor. Most factors are from 0 to below 1; then the product fits into 64
+// bits and is in range.
 #[inline(always)]
 fn product(x: Num, factor: Num) -> Num
     ensures { result ≡ product_of x factor }
@@ -193,7 +195,7 @@ fn near_product(x: i64, factor: i64) -> i64
     x * factor
 }
 
-// The factor of the rise, from 0 to one.
+// The factor of the rise, from 0 to 1.
 fn up_at(rise: u64, n: u64) -> Num
     requires wide { rise < 2 ^ 49 }
     ensures { result ≡ up_at rise n }
@@ -214,7 +216,7 @@ fn part_of_one(n: u64, rise: u64) -> u64
     (ONE as u128 * u128::from(n) / u128::from(rise)) as u64
 }
 
-// The factor of the decay, one or less.
+// The factor of the decay, at most 1.
 fn down_at(duration: u64, decay: u64, n: u64) -> Num
     requires wide_duration { duration < 2 ^ 49 }
     requires wide_decay { decay < 2 ^ 49 }
@@ -228,7 +230,7 @@ fn down_at(duration: u64, decay: u64, n: u64) -> Num
     }
 }
 
-// What is left of the duration, by the decay.
+// The remaining duration, divided by the decay.
 fn fallen(duration: u64, decay: u64, n: u64) -> i128
     requires some { 0 < decay }
     requires wide { duration < 2 ^ 49 }

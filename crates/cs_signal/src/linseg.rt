@@ -1,4 +1,4 @@
-// `linseg`: straight pieces from value to value; after the last piece the last value.
+// `linseg`: straight segments from value to value. After the last segment its last value continues.
 ghost use Rattle.std.specs.Prelude.{◌≡◌, ◌+◌, ◌*◌, ◌<◌, ◌≤◌, IfOk, length};
 ghost use Rattle.cs_base.specs.{Heads.header_of_head, Numbers.clamp};
 ghost use Rattle.cs_signal.specs.Linseg.{linseg_start, linseg_step, lengths_of, on_pieces, pieces_of, values_of};
@@ -14,8 +14,8 @@ use cs_base::{Head, Num, Rate};
 use std::alloc::{AllocError, Global};
 use std::marker::Model;
 
-/// A `linseg` of a note: the values at the ends of its pieces, the steps that each piece takes, the number of the step
-/// to come, and the place of that step.
+/// The state of a `linseg`: the values at the ends of its segments, the length of each segment in steps, the
+/// number of the next step, and the segment of this step.
 #[derive(Drop)]
 pub struct Linseg {
     values: Vec<Num>,
@@ -24,7 +24,8 @@ pub struct Linseg {
     place: Place,
 }
 
-// A piece, and the number of the step at which it begins. Behind the last piece stands the last value, for ever.
+// The index of a segment, and the number of the step at which the segment begins. The last value continues
+// after the last segment.
 #[derive(Clone, Copy)]
 struct Place {
     piece: usize,
@@ -44,7 +45,8 @@ impl Model for Linseg {
 }
 
 impl Linseg {
-    /// One that has no step behind it, from its settled arguments: a value, then a duration and a value for each piece.
+    /// The initial state, from the i-rate arguments: a value, then a duration and a value for each
+    /// segment.
     pub fn start(alloc: Global, rate: Rate, head: &Head, init: &[Num]) -> Result<Linseg, AllocError>
         ensures { IfOk result (λ unit. unit ≡ linseg_start rate (pace_of (header_of_head head.now)) init.now) }
     {
@@ -59,7 +61,7 @@ impl Linseg {
         })
     }
 
-    // The value at the step to come.
+    // The value at the next step.
     fn value(&self) -> Num
         ensures { result ≡ clamp (on_pieces self.now.values self.now.lengths self.now.number) }
     {
@@ -91,7 +93,7 @@ impl Stepper for Linseg {
 impl Generator for Linseg {
     ghost moving = { 0 };
 
-    // All at once where the steps lie in one piece, or after the last.
+    // Steps that are all in one segment, or after the last one, are computed together.
     fn render(&mut self, inputs: &[Operand], out: &mut [Num]) {
         let count = out.len() as u64;
         let Place { piece, begin } = self.place;
@@ -116,7 +118,7 @@ impl Generator for Linseg {
     }
 }
 
-// How many pieces the arguments give.
+// The number of segments that the arguments describe.
 fn pieces_of(init: &[Num]) -> usize
     ensures value { result ≡ pieces_of init.now }
     ensures bounded { result ≤ length init.now }
@@ -146,7 +148,7 @@ fn lengths_of(alloc: Global, rate: Rate, head: &Head, init: &[Num]) -> Result<Ve
     Ok(lengths)
 }
 
-// The place of a step, from one that is no later.
+// The segment that contains step `number`, searched from the segment of an earlier step.
 fn place_of(lengths: &[u64], from: Place, number: u64) -> Place
     requires real { from.piece ≤ length lengths.now }
     requires passed { HasPassed lengths.now number from.piece from.begin }

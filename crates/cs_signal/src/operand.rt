@@ -1,10 +1,10 @@
-// What a unit is given over a control cycle.
+// The inputs of a unit over a control cycle.
 ghost use Rattle.std.specs.Prelude.{◌≡◌, ◌<◌, length};
 ghost use Rattle.cs_signal.specs.Operands.{argument, operand_at, Lasts, Reaches};
 
 use cs_base::Num;
 
-/// An argument of a unit over a control cycle: a value that is held, or one value a frame.
+/// An argument of a unit over a control cycle: one held value, or one value for each frame.
 #[derive(Clone, Copy)]
 pub enum Operand<'r> {
     Held(Num),
@@ -12,7 +12,7 @@ pub enum Operand<'r> {
 }
 
 impl Operand<'_> {
-    /// Its value at a frame of the cycle; 0 where its row has none.
+    /// The value at a frame of the cycle. Returns 0 if the row is too short.
     #[inline(always)]
     pub fn at(&self, frame: usize) -> Num
         ensures { result ≡ operand_at self.now frame }
@@ -23,7 +23,7 @@ impl Operand<'_> {
         }
     }
 
-    /// Its value at a frame that it has a value for.
+    /// The value at a frame for which it has one.
     #[inline(always)]
     pub fn value(&self, frame: usize) -> Num
         requires { Reaches frame self.now }
@@ -37,7 +37,7 @@ impl Operand<'_> {
 }
 
 impl<'r> Operand<'r> {
-    /// The same operand.
+    /// Returns the same operand, copied.
     #[inline(always)]
     pub fn copied(&self) -> Operand<'r>
         ensures { result ≡ self.now }
@@ -49,7 +49,7 @@ impl<'r> Operand<'r> {
     }
 }
 
-// The value of a row at a frame that it has.
+// The value of a row at a frame within the row.
 #[inline(always)]
 fn row_value(values: &[Num], frame: usize) -> Num
     requires { frame < length values.now }
@@ -58,7 +58,7 @@ fn row_value(values: &[Num], frame: usize) -> Num
     values[frame]
 }
 
-/// An argument by its place, counted from 0; one that is missing is 0.
+/// The argument at place `place`, counted from 0. Returns 0 if it is missing.
 #[inline(always)]
 pub fn argument(arguments: &[Num], place: usize) -> Num
     ensures { result ≡ argument arguments.now place }

@@ -1,4 +1,4 @@
-// A straight line through many steps, by sums alone.
+// Evaluates a straight line over many steps by additions alone.
 ghost use Rattle.std.specs.Prelude.{◌≡◌, ◌<◌, ◌≤◌, ◌+◌, ◌*◌, ◌^◌, length, pos, ◌+ℤ◌, ◌-ℤ◌, ◌*ℤ◌, unsigned_abs};
 ghost use Rattle.std.specs.Int.{int_rem_euclid};
 ghost use Rattle.cs_base.specs.Numbers.{IsRaw, clamp, floor_div};
@@ -8,14 +8,14 @@ ghost use Rattle.cs_signal.specs.inner.Ramp.{IsAdvanced, IsInverse, IsParted, ra
 use crate::line::{quotient, raised, rise, times};
 use cs_base::Num;
 
-// A number as a multiple of a divisor and a rest below it.
+// A number as a multiple of a divisor, plus a remainder below the divisor.
 #[derive(Clone, Copy)]
 struct Parts {
     whole: i128,
     rest: u64,
 }
 
-/// The values at parts `n`, `n + 1` and so on of `d` of the way from one value to another, as many as `out` has.
+/// Fills `out` with the values at `n` / `d`, (`n` + 1) / `d` and so on of the way from `from` to `to`.
 pub(crate) fn ramp(from: Num, to: Num, n: u64, d: u64, out: &mut [Num])
     requires some { 1 ≤ d }
     requires number { n ≤ last_number }
@@ -29,8 +29,8 @@ pub(crate) fn ramp(from: Num, to: Num, n: u64, d: u64, out: &mut [Num])
     }
 }
 
-// The same up to the end of a way of at most 2^26 steps: each value lies between the two, so that nothing is brought
-// into range, and sums in 2^64ths come near enough.
+// Fills `out` with values of the way that don't go beyond its end, for at most 2^26 steps. Each value is
+// between `from` and `to`, so none is clamped, and sums in 2^64ths are precise enough.
 fn between_ends(from: Num, to: Num, n: u64, d: u64, out: &mut [Num])
     requires some { 1 ≤ d }
     requires short { d ≤ 2 ^ 26 }
@@ -49,7 +49,7 @@ fn between_ends(from: Num, to: Num, n: u64, d: u64, out: &mut [Num])
     }
 }
 
-// How many 2^64ths the inverse of a number is, rounded up.
+// The inverse of a number in 2^64ths, rounded up.
 fn inverse_of(d: u64) -> u128
     requires { 1 ≤ d }
     ensures near { IsInverse d result }
@@ -64,7 +64,7 @@ struct Fine {
     parts: i128,
 }
 
-// A number in 2^64ths, its rest by the inverse of the divisor.
+// Converts a number to 2^64ths. Its remainder is multiplied by the inverse of the divisor.
 fn told(number: Parts, inverse: u128) -> Fine
     requires whole { unsigned_abs number.whole < 2 ^ 48 }
     requires rest { number.rest < 2 ^ 26 }
@@ -90,7 +90,7 @@ fn product(rest: u64, inverse: u128) -> i128
     (u128::from(rest) * inverse) as i128
 }
 
-// The value of a step.
+// The value of a step, rounded down.
 #[inline(always)]
 fn value(at: Fine) -> Num
     requires bounded { unsigned_abs at.parts ≤ 2 ^ 125 }
@@ -100,7 +100,7 @@ fn value(at: Fine) -> Num
     Num::exact((at.parts >> 64) as i64)
 }
 
-// A number of a ramp one step on.
+// The value of the next step, `by` further on.
 #[inline(always)]
 fn next(at: Fine, by: Fine) -> Fine
     requires at { unsigned_abs at.parts < 2 ^ 125 }
@@ -112,7 +112,7 @@ fn next(at: Fine, by: Fine) -> Fine
     }
 }
 
-// The parts of a value above another.
+// The parts of `from` plus a rise.
 fn risen(from: Num, part: Parts) -> Parts
     requires { unsigned_abs part.whole < 2 ^ 111 }
     ensures value { result.whole ≡ from +ℤ part.whole }
@@ -124,7 +124,7 @@ fn risen(from: Num, part: Parts) -> Parts
     }
 }
 
-// The same wherever the parts lie.
+// Fills `out` with values anywhere on the line, also beyond its ends.
 fn anywhere(from: Num, to: Num, n: u64, d: u64, out: &mut [Num])
     requires some { 1 ≤ d }
     requires number { n ≤ last_number }
@@ -138,7 +138,7 @@ fn anywhere(from: Num, to: Num, n: u64, d: u64, out: &mut [Num])
     }
 }
 
-// The parts of a way.
+// The difference from `from` to `to`, divided by `d`: quotient and remainder.
 fn rise_of(from: Num, to: Num, d: u64) -> Parts
     requires some { 1 ≤ d }
     ensures parts { IsParted (to -ℤ from) d result.whole result.rest }
@@ -148,7 +148,7 @@ fn rise_of(from: Num, to: Num, d: u64) -> Parts
     parted(i128::from(rise(from, to)), d)
 }
 
-// The parts of `n` times a way.
+// `n` times the difference from `from` to `to`, divided by `d`: quotient and remainder.
 fn part_of(from: Num, to: Num, n: u64, d: u64) -> Parts
     requires some { 1 ≤ d }
     requires number { n ≤ last_number }
@@ -158,7 +158,7 @@ fn part_of(from: Num, to: Num, n: u64, d: u64) -> Parts
     parted(times(rise(from, to), n), d)
 }
 
-// The value above another.
+// The value `from` plus the integer part of a rise, clamped.
 #[inline(always)]
 fn value_at(from: Num, at: Parts) -> Num
     requires { unsigned_abs at.whole < 2 ^ 120 }
@@ -183,7 +183,7 @@ fn remainder(n: i128, d: u64) -> u64
     requires { 1 ≤ d }
     ensures { result ≡ unsigned_abs (int_rem_euclid n (pos d)) }
 {
-    // As in `quotient`.
+    // A 64-bit division if both numbers fit, as in `quotient`.
     if i64::MIN as i128 <= n && n <= i64::MAX as i128 && d <= i64::MAX as u64 {
         (n as i64).rem_euclid(d as i64) as u64
     } else {

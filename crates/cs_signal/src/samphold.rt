@@ -1,4 +1,4 @@
-// `samphold`: its input while its gate is open, and then the last value held.
+// `samphold`: its input while its gate is open, and the last value while it is closed.
 ghost use Rattle.std.specs.Prelude.{◌≡◌, pos};
 ghost use Rattle.cs_signal.specs.Samphold.{samphold_step};
 
@@ -9,7 +9,7 @@ use crate::stepwise::step_by_step;
 use cs_base::Num;
 use std::marker::Model;
 
-/// A `samphold` of a note: its last result, 0 before the first step.
+/// The state of a `samphold`: its last result, 0 before the first step.
 #[derive(Clone, Copy)]
 pub struct Samphold {
     last: Num,
@@ -26,7 +26,7 @@ impl Model for Samphold {
 }
 
 impl Samphold {
-    /// One that has no step behind it.
+    /// The initial state.
     pub fn start() -> Samphold
         ensures { result ≡ pos 0 }
     {
@@ -39,7 +39,7 @@ impl Samphold {
 impl Stepper for Samphold {
     ghost step = { samphold_step };
 
-    // One step: the value where the gate is above 0, else the last result.
+    // One step: the input if the gate is above 0, otherwise the last result.
     #[inline(always)]
     fn tick(&mut self, inputs: &[Num]) -> Num {
         if argument(inputs, 1).raw() > 0 {

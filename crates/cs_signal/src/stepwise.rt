@@ -1,4 +1,4 @@
-// Steps one by one: where a block is no more than its steps.
+// Computes a block of frames one step at a time.
 ghost use Rattle.std.specs.{Prelude.◌≡◌, Prelude.◌≤◌, Prelude.◌∷◌, Prelude.[], Prelude.length, Prelude.take, List.All};
 ghost use Rattle.cs_signal.specs.{Operands.Lasts, Operands.inputs_at, Operands.operand_at, Steps.run};
 
@@ -6,10 +6,10 @@ use crate::Operand;
 use crate::generator::Stepper;
 use cs_base::Num;
 
-/// How many moving arguments a unit has at most.
+// The largest number of moving arguments that a unit can have.
 const MOST_INPUTS: usize = 7;
 
-/// A step for each frame of `out`, whatever the unit: for the cycles that it has no faster way through.
+/// Performs one step for each frame of `out`, for any unit. It is used for cycles that have no faster way.
 pub(crate) fn frame_by_frame<S: Stepper>(unit: &mut S, inputs: &[Operand], out: &mut [Num])
     requires { length inputs.now ≤ 7 }
     ensures { (unit.new, out.new) ≡ run S.step (inputs_at inputs.now) unit.old 0 (length out.old) }
@@ -20,7 +20,7 @@ pub(crate) fn frame_by_frame<S: Stepper>(unit: &mut S, inputs: &[Operand], out: 
     }
 }
 
-// The inputs of a step at a frame, and what is behind them.
+// The inputs of a step at a frame. The places after them are unused.
 fn gathered(inputs: &[Operand], frame: usize) -> [Num; MOST_INPUTS]
     requires { length inputs.now ≤ 7 }
     ensures first { take (length inputs.now) result ≡ inputs_at inputs.now frame }
@@ -33,8 +33,8 @@ fn gathered(inputs: &[Operand], frame: usize) -> [Num; MOST_INPUTS]
     here
 }
 
-/// A step for each frame of `out`, by one to three moving arguments. Unit and operands are variables of the loop while
-/// it runs: what lies behind a reference would be read and written at each step.
+/// Performs one step for each frame of `out`, with one to three moving arguments. Unit and operands are local
+/// variables of the loop; through a reference they would be read and written at each step.
 #[inline(always)]
 pub(crate) fn step_by_step<S: Stepper + Copy>(unit: &mut S, inputs: &[Operand], out: &mut [Num])
     requires some { 1 ≤ length inputs.now }

@@ -1,5 +1,6 @@
--- Two typed statements that differ in their variables alone: in two notes where each variable has what the other's has,
--- they do the same. Such notes may be in two worlds that differ in the numbers of what notes share.
+-- Two typed statements that differ only in their variables have the same effect on two notes, if each
+-- variable has the same value as its counterpart. The notes may be in two worlds that differ in the numbers
+-- of shared resources.
 use Rattle.std.proofs.lemmas.Grind.{common_steps}
 use Rattle.std.proofs.Common.{◌≡◌, ℕ, suc, ℤ, ◌+◌, Bool, true, false, if◌then◌else◌, List, ◌∷◌, length, arith, [], refl}
 use Rattle.std.proofs.Common.{ap, subst}
@@ -26,7 +27,7 @@ use Rattle.cs_words.specs.declared.sign.BinOp.TheVariants as op
 use Rattle.cs_typed.specs.TypedTree as typed
 use Rattle.cs_ir.specs.declared.op.Reach.TheVariants as reach
 
--- ---- alike but for their variables
+-- ---- equal except for their variables
 
 pub data Alike (V : Variable → Variable → Type 0) : Expression → Expression → Type 0 where
   alike_number : (r : Rate) (z : ℤ) → Alike V (number r z) (number r z)
@@ -74,7 +75,7 @@ pub data AlikeStmt (V : Variable → Variable → Type 0) : Stmt → Stmt → Ty
   alike_nothing : AlikeStmt V nothing nothing
   alike_empty : (r : Rate) → AlikeStmt V (choose r (otherwise no_stmt)) (choose r (otherwise no_stmt))
 
--- ---- what a call is short for
+-- ---- the core statement of a call
 
 values_alike : {V : Variable → Variable → Type 0} {xs ys : List typed.Argument} → AlikeArguments V xs ys
     → AlikeAll V (values_of xs) (values_of ys)
@@ -216,16 +217,17 @@ pub units_alike : {V : Variable → Variable → Type 0} {x y : Stmt} → AlikeS
 units_alike (alike_set r v w a b g h) n = refl
 units_alike _ n = refl
 
--- of statements that are alike: the number behind that of the one's unit
+-- the number after the unit of one statement, computed from its counterpart
 pub unit_behind : {V : Variable → Variable → Type 0} {x y : Stmt} → AlikeStmt V x y → (n : ℕ)
     → unit_past n x ≡ n + length (unit_of n y)
 unit_behind (alike_set r v w a b g h) n = omega arith
 unit_behind _ n = omega arith
 
--- ---- two notes alike
+-- ---- two notes that agree
 
--- A relation between notes of two worlds in which two variables have the same value, and keep having it when both are
--- assigned one; and a relation between paths at which both keep the same, that goes on into parts.
+-- A relation between notes of two worlds. Corresponding variables have the same value, and still do after
+-- both are assigned the same value. There is also a relation between paths at which both notes keep the same
+-- value; it extends to the parts of both paths.
 pub record Agree {W : Type 0} (o p : World W) (V : Variable → Variable → Type 0) (At : Path → Path → Type 0)
     (R : Note W → Note W → Type 0) : Type 0 where
   pub parts : (p q : Path) → At p q → (k : ℕ) → At (k ∷ p) (k ∷ q)
@@ -236,7 +238,7 @@ pub record Agree {W : Type 0} (o p : World W) (V : Variable → Variable → Typ
   pub keeps : (t u : Note W) → R t u → (p q : Path) → At p q → (z : ℤ) → R (put_kept p z t) (put_kept q z u)
   pub moves : (t u : Note W) → R t u → (x : W) → R (moved_to x t) (moved_to x u)
 
--- what is asked where kept values are read
+-- the condition under which kept values are read
 abbrev pub Reads : When → Type 0 → Type 0
 Reads beginning A = Unit {0}
 Reads cycle A = A
@@ -244,7 +246,7 @@ Reads cycle A = A
 abbrev pub place : Path → ℕ → StatementPlace
 place p n = record { path = p; unit = n }
 
--- what goes out is the same where what notes share has other numbers
+-- the output is the same if shared resources have other numbers
 sent_there : {W : Type 0} (to : Res → Res) (o : World W) (c : ℕ) (ws : List Wave) (x : W)
     → sent o c ws x ≡ sent (renumbered to o) c ws x
 sent_there to o c [] x = refl
@@ -255,7 +257,7 @@ sent_at_there : {W : Type 0} (to : Res → Res) (o : World W) (ws : List Wave) (
 sent_at_there to o (k ∷ w ∷ ws) x = sent_at_there to o ws (o.out_at k w x)
 sent_at_there to o _ x = refl
 
--- The one note is in a world, the other in one with other numbers of what notes share, or in the same.
+-- One note is in a world, the other in the same world or in one with other numbers for shared resources.
 module _ {W : Type 0} (o : World W) (to : Res → Res) (V : Variable → Variable → Type 0) (At : Path → Path → Type 0)
     (R : Note W → Note W → Type 0) (s : Agree o (renumbered to o) V At R) where
   abbrev there : World W
@@ -290,7 +292,7 @@ module _ {W : Type 0} (o : World W) (to : Res → Res) (V : Variable → Variabl
       part_same t u h w r p q at _ _ (λ i. held o.ksmps r (λ j. applied f (one i j)))
   value_same t u h _ w p q at = part_same t u h w _ p q at _ _ refl
 
-  -- values as the note begins, and in a cycle those of parts from one on
+  -- the values of expressions, as the note begins and in a cycle
   firsts_same : (t u : Note W) → R t u → {xs ys : List Expression} → AlikeAll V xs ys
       → values o t beginning [] xs ≡ values there u beginning [] ys
   firsts_same t u h alike_none = refl
@@ -337,7 +339,7 @@ module _ {W : Type 0} (o : World W) (to : Res → Res) (V : Variable → Variabl
       either _ _ _ _ _ (kept_whole _ _ h (alike_apply _ _ _ _ g) _ _ at) (keep_same t u h g _ _ (s.parts p q at 0))
   keep_same t u h g p q at = either _ _ _ t u (kept_whole t u h g p q at) h
 
-  -- what is kept of parts from one on
+  -- the values kept for several parts
   keep_all_same : (t u : Note W) → R t u → {xs ys : List Expression} → AlikeAll V xs ys → (k : ℕ) (p q : Path) → At p q
       → R (keep_all o (k ∷ p) xs t) (keep_all there (k ∷ q) ys u)
   keep_all_same t u h alike_none k p q at = h
@@ -369,7 +371,7 @@ module _ {W : Type 0} (o : World W) (to : Res → Res) (V : Variable → Variabl
       → R (sought o xs t) (sought there ys u)
   sought_same t u h g = moves_to t u h _ _ (λ i. o.seek (first_values (firsts_same t u h g i)) (s.world t u h i))
 
-  -- a statement at two paths, with one number of its unit
+  -- a statement at two paths, whose unit has the same number
   pub init_same : (t u : Note W) → R t u → {x y : Stmt} → AlikeStmt V x y → (p q : Path) → At p q → (n : ℕ)
       → R (init_stmt o (place p n) x t) (init_stmt there (place q n) y u)
   init_same t u h (alike_set r v w a b g k) p q at n =

@@ -1,4 +1,4 @@
--- Expanded statements do what the statements do with frames.
+-- Expanded statements have the same effect as the original statements with frames.
 use Rattle.std.proofs.Common.{◌≡◌, ◌∙◌, ℕ, zero, suc, ◌+◌, ◌≤◌, Bool, if◌then◌else◌, List, ◌∷◌, map, [], ◌++◌, length}
 use Rattle.std.proofs.Common.{Option, Some, arith, refl, sym, ap, subst}
 use Rattle.cs_base.specs.declared.resource.Rate.{Rate}
@@ -54,8 +54,8 @@ results_in : (n : ℕ) (xs : List (List ℕ)) → map (value_in n) xs ≡ map (r
 results_in n [] = refl
 results_in n (x ∷ xs) = ap (λ l. value_in n x ∷ l) (results_in n xs)
 
--- An expanded text whose names have numbers, the text that it comes from as it is read, and a clear way from the one to
--- the other.
+-- An expanded text with numbers for its names, the original text and its reading, and a clear way from the
+-- expanded text to the original one.
 pub record Texts (W : Type 0) : Type 0 where
   pub reading : Reading W
   pub flat : Numbering
@@ -70,7 +70,7 @@ module _ {W : Type 0} (texts : Texts W) where
   abbrev v : Variables
   v = numbered m.shared flat
 
-  -- the expanded text, read by the numbers of its names
+  -- the expanded text, read with the numbers of its names
   abbrev pub flat_block : Block → core.Block
   flat_block b = core.core m.spaces (block_by m.shared (numbered m.shared flat) b)
 
@@ -88,7 +88,7 @@ module _ {W : Type 0} (texts : Texts W) where
 
   -- ---- blocks one after another
 
-  -- the place behind statements of the expanded text
+  -- the place after statements of the expanded text
   abbrev pub past_text : StatementPlace → core.Block → StatementPlace
   past_text p core.no_stmt = p
   past_text p (core.andthen x rest) = past_text (past_stmt p x) rest
@@ -102,7 +102,7 @@ module _ {W : Type 0} (texts : Texts W) where
   past_joins p no_stmt b = refl
   past_joins p (andthen x rest) b = past_joins (past_stmt p (flat_stmt x)) rest b
 
-  -- what statements of the expanded text do
+  -- the effect of statements of the expanded text
   abbrev pub text_done : When → StatementPlace → core.Block → Note W → Note W
   text_done w p b t = by_pass w (initial.init_block m.world p b t) (performing.perf_block m.world p b t)
 
@@ -126,7 +126,7 @@ module _ {W : Type 0} (texts : Texts W) where
       (sym (text_more w p (flat_stmt x) (flat_block rest) t)) ∙ text_joins w q rest b now
       ∙ text_more w p (flat_stmt x) (flat_block (joins rest b)) t
 
-  -- ---- a statement without calls of defined opcodes
+  -- ---- a statement without calls of user-defined opcodes
 
   abbrev there : ℕ → Variables
   there f x = v (own_name f x)
@@ -178,7 +178,7 @@ module _ {W : Type 0} (texts : Texts W) where
       from_seen _ clear _ _ _ _ at _ _ _
       (perf_same _ (λ r. r) _ _ _ (agree _ _ at _) _ _ (to_seen _ _ _ _ _ at _ _ h) a _ _ leads _)
 
-  -- a statement alone
+  -- a single statement
   alone_stands : (w : When) (f : ℕ) (fp : Path) → way.frame f ≡ Some fp → (p : StatementPlace) (q : Path)
       → Follows way p.path q → (x : core.Stmt) (y : core.Stmt) (t : Note W) (u : Framed W) → AlikeStmt (Same f) x y
       → Stand t u → Stand (text_done w p (core.andthen x core.no_stmt) t)
@@ -187,7 +187,7 @@ module _ {W : Type 0} (texts : Texts W) where
       subst (λ z. Stand z (put_back fp (stmt_done w m.world (place q p.unit) y (seen_from fp u)) u))
       (text_none w (past_stmt p x) _ ∙ text_more w p x core.no_stmt t) (plain_stands _ _ _ at _ _ leads _ _ _ _ a h)
 
-  -- ---- a value, what is kept of it, and a variable that takes it
+  -- ---- a value, its kept parts, and a variable that is assigned the value
 
   value_stands : (f : ℕ) (fp : Path) → way.frame f ≡ Some fp → (a b : typed.Expression) (t : Note W) (u : Framed W)
       → Alike (Same f) a b → Stand t u → (w : When) (p q : Path) → Reads w (Follows way p q)
@@ -219,7 +219,7 @@ module _ {W : Type 0} (texts : Texts W) where
       → Stand (going m.world t q) (going_on m.world u w)
   going_stands t q u w h k = grind (arith, common_steps)
 
-  -- the statement of the expanded text that gives a value of frame f to a variable of frame g
+  -- the statement of the expanded text that assigns a value of frame f to a variable of frame g
   abbrev copy_of : ℕ → ℕ → ℕ → List ℕ → Expression → Statement
   copy_of line f g x e = set line (own_name g x) (renamed_expression (own_name f) e)
 
@@ -275,9 +275,9 @@ module _ {W : Type 0} (texts : Texts W) where
       (copy_stands w line f g fp gp af ag p q (λ y. lay 0 (0 ∷ y)) x e t u fits.0 k.0 h))
   copies_stand w line f g fp gp af ag p q _ _ n lay t u fits k h = subst (λ z. Stand z u) (text_none w p t) h
 
-  -- ---- what a defined opcode does
+  -- ---- the effect of a user-defined opcode
 
-  -- each part of what stands at a path leads somewhere
+  -- each part of what is at a path leads to a path
   abbrev pub Led : Path → Type 0
   Led p = (y : Path) → (q : Path) × (way.part (y ++ p) ≡ Some q)
 
@@ -314,7 +314,7 @@ module _ {W : Type 0} (texts : Texts W) where
       ≡ joins (copies_of line f n a.inputs args) (joins (t.block n) (copies_of line n f xs (values_in a.results)))
   called_is f n line xs c args t a h k = grind (arith, common_steps, inner_name, results_in)
 
-  -- the place behind a call
+  -- the place after a call
   call_past : (f n line : ℕ) (p : StatementPlace) (xs : List (List ℕ)) (c : Callee) (args : List Argument)
       (t : Template) (a : Action W) → 1 ≤ n → Pair t a
       → past_text p (flat_block (called (own_name f) n line xs c args (Some t)))
@@ -369,7 +369,7 @@ module _ {W : Type 0} (texts : Texts W) where
       (subst (λ z. Stand z framed)
       (text_joins w ready (t.block n) two s1 ∙ text_joins w p one (joins (t.block n) two) s) done)
 
-  -- a call of a defined opcode or of another
+  -- a call of a user-defined opcode, or of another opcode
   any_unit : (f n line : ℕ) (p : StatementPlace) (xs : List (List ℕ)) (c : Callee) (args : List Argument)
       {t : Option Template} {a : Option (Action W)} (k : PairIf t a) → 1 ≤ n → ActsIf k → NamedAll (Fits f) xs
       → NamedArguments (Fits f) args → (past_text p (flat_block (called (own_name f) n line xs c args t))).unit
@@ -460,7 +460,7 @@ module _ {W : Type 0} (texts : Texts W) where
           ∙ arms_units i (block_at_least n b h) (j + length one) rest named.2
           ∙ further j one (units_of_arms m env (j + length one) rest)
 
-    -- the place behind an arm
+    -- the place after an arm
     arm_behind : (n : ℕ) → 1 ≤ n → (p : StatementPlace) (q : Path) (b : Block) → NamedBlock (Fits f) b
         → place (next q) (text_past_arm p (texts_of n b)).unit ≡ past_arm m env (place q p.unit) b
     arm_behind n h p q b named =

@@ -1,4 +1,4 @@
--- Expanded instruments call no `zakinit`, and each number is of one instrument.
+-- Expanded instruments call no `zakinit`, and each instrument number belongs to one instrument.
 use Rattle.std.proofs.Common.{arith, ◌≡◌, ◌≢◌, ℕ, ◌+◌, eqb, Bool, true, false, if◌then◌else◌, nat_lt, List, ◌∷◌, ◌++◌}
 use Rattle.std.proofs.Common.{map, [], Option, Some, None, Ok, refl, sym, ap, subst, ◌∙◌}
 use Rattle.std.proofs.lemmas.{Grind.common_steps, Bool.eq-eqb, Bool.eqb-true, Map.Made.IsDistinct-from_AllPairs}
@@ -48,7 +48,7 @@ calm_assignments : (line : ℕ) (xs : List (List ℕ)) (args : List Argument) �
 calm_assignments line (x ∷ xs) (value e ∷ args) = (tt, calm_assignments line xs args)
 calm_assignments line _ _ = tt
 
--- ---- well formed statements
+-- ---- well-formed statements
 
 calm_call : (p : Place) (own : List ℕ) (c : Callee) → p ≢ place.Outside → MayCall p own c → c ≢ callee.Opcode op.Zakinit
 calm_call place.Outside own c inner h = absurd (inner refl)

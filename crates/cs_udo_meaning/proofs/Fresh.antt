@@ -1,4 +1,4 @@
--- Names of variables of frames, the instrument's own among them: two variables of frames have two names.
+-- Names of frames' variables, including the instrument's own: different variables have different names.
 use Rattle.std.proofs.Common.{◌≡◌, ◌∙◌, ℕ, zero, suc, true, false, List, refl, sym}
 use Rattle.cs_words.specs.Names.{name_rate, is_global}
 use Rattle.cs_udo.proofs.Fresh.{fresh_apart, stopped, framed_shared, framed_fresh, framed_rate, framed_global}

@@ -1,4 +1,4 @@
--- Where values are kept: at the parts of what stands in keepers_of_block alone.
+-- Values are kept only at the parts listed by keepers_of_block.
 use Rattle.std.proofs.Common.{◌≡◌, ◌≢◌, ◌∙◌, ℕ, suc, ℤ, Bool, true, false, if◌then◌else◌, List, ◌∷◌, ◌++◌, refl, ap, []}
 use Rattle.cs_base.specs.{declared.resource.Rate.Rate, declared.spaces.Spaces.Spaces}
 use Rattle.cs_typed.specs.TypedTree.{Expression, neg, pair, pick, apply}
@@ -20,7 +20,7 @@ use Rattle.cs_typed.specs.TypedTree as typed
 use Rattle.cs_meaning.specs.Initialising as initial
 use Rattle.cs_meaning.specs.Performing as performing
 
--- a path is no part of what stands at another
+-- a path isn't inside another one
 abbrev pub Off : Path → Path → Type 0
 Off q k = (y : Path) → q ≢ y ++ k
 
@@ -32,7 +32,7 @@ inner : (q : Path) (k : ℕ) (p : Path) → Off q p → Off q (k ∷ p)
 inner q k p off y e = off (y ++ (k ∷ [])) (e ∙ further_in y k p)
 
 module _ {W : Type 0} (o : World W) (q : Path) where
-  -- what is kept at this path stays
+  -- the value kept at this path is unchanged
   record Same (t u : Note W) : Type 0 where
     pub kept : u.kept q ≡ t.kept q
 
@@ -82,7 +82,7 @@ module _ {W : Type 0} (o : World W) (q : Path) where
   done_off r [] x t = record { kept = refl }
   done_off r (v ∷ vs) x t = record { kept = (assign_off v (held o.ksmps r x.1) (record t { world = x.0 })).kept }
 
-  -- ---- a statement without calls of defined opcodes
+  -- ---- a statement without calls of user-defined opcodes
 
   mutual
     init_off : (p : Path) (u : ℕ) (s : Stmt) (t : Note W) → Off q p → Same t (initial.init_stmt o (place p u) s t)
@@ -143,7 +143,7 @@ module _ {W : Type 0} (o : World W) (q : Path) where
     perf_arms_off p (arm c b rest) t =
         chosen _ (perf_block_off (inside_arm p) b t) (perf_arms_off (text_past_arm p b) rest t)
 
-  -- a typed text without calls of defined opcodes
+  -- a typed text without calls of user-defined opcodes
   mutual
     typed_off : (spaces : Spaces) (p : StatementPlace) (x : typed.Statement) (t : Note W)
         → Each (Off q) (typed_keepers p.path x) → Same t (initial.init_stmt o p (core_stmt spaces x) t)
@@ -195,7 +195,7 @@ module _ {W : Type 0} (o : World W) (q : Path) where
   stmt_off beginning p s t off = (init_off p.path p.unit s t off).kept
   stmt_off cycle p s t off = (perf_off p s t).kept
 
--- what a note with frames keeps
+-- the values that a note with frames keeps
 pub kept_stays : {W : Type 0} (m : Reading W) (q : Path) → Stays m (λ u. u.kept q) (λ f. Unit {0}) (Off q)
 kept_stays m q = record {
   done = λ w f i p at s u. stmt_off m.world q w p s (seen_from f u) at;

@@ -1,4 +1,5 @@
--- What is known goes on being known, and the typed form of statements without a fault is that of what is known at the
+-- Known names remain known, and the typed form of statements without a fault depends only on the names known
+-- at the end.
 use Rattle.std.proofs.Common.{◌≡◌, ◌∙◌, ℕ, suc, ◌==◌, Bool, true, false, not, ◌&&◌, if◌then◌else◌, List, ◌∷◌, []}
 use Rattle.std.proofs.Common.{length, map, Option, Some, None, arith, refl, sym, ap}
 use Rattle.std.proofs.lemmas.{Bool.and_parts, Bool.Decides.nat_tests, Grind.common_steps}
@@ -29,16 +30,11 @@ use Rattle.cs_grammar.specs.declared.tree.Callee.TheVariants as callee
 use Rattle.cs_typed.specs.TypedTree as typed
 use Rattle.cs_typed.specs.declared.tree.Var.TheVariants as variant
 
--- end.
-
 -- ---- variables
 
--- a numbering has the places of a table
+-- a numbering agrees with the places of a table
 pub record HasPlaces (s : Numbering) (t : RateNames) : Type 0 where
   pub each : (x : List ℕ) → in_table t x ≡ true → s x ≡ place_in t x
-
-pub places : (t : RateNames) → HasPlaces (place_in t) t
-places t = record { each = λ x h. refl }
 
 shared_variable : (g h : RateNames) (x : List ℕ) → h ≡ g
     → variant.Global (global (name_rate x) (place_in g x)) ≡ variant.Global (global (name_rate x) (place_in h x))

@@ -1,4 +1,4 @@
--- Where a way leads: frames whose numbers follow, and parts of the expanded text one behind another.
+-- The targets of a way: consecutive frames, and parts of the expanded text one after another.
 use Rattle.std.proofs.Common.{◌≡◌, ◌∙◌, ℕ, zero, suc, ◌+◌, List, ◌∷◌, ◌++◌, length, Some, arith, sym, ap, subst, []}
 use Rattle.std.proofs.Common.{add-zero}
 use Rattle.std.specs.List.{slice_get}
@@ -6,9 +6,9 @@ use Rattle.cs_meaning.specs.Notes.{Path, next}
 use Rattle.cs_udo_meaning.specs.Stands.{Way}
 use Rattle.cs_udo_meaning.proofs.{Paths.inward, Ways.Leads}
 
--- ---- frames whose numbers follow
+-- ---- consecutive frames
 
--- the frames with numbers from one on belong to these calls
+-- the frames from number n on belong to these calls
 abbrev pub Holds : Way → ℕ → List Path → Type 0
 Holds way n [] = Unit {0}
 Holds way n (p ∷ ps) = (way.frame n ≡ Some p) × Holds way (suc n) ps
@@ -29,7 +29,7 @@ holds_from way n (x ∷ xs) h =
 
 -- ---- parts of the expanded text
 
--- what stands at a path leads so, and what stands there and behind it
+-- the way from a path, and from the parts inside it
 abbrev pub Lays : Way → Path → Leads → Type 0
 Lays way p n = (y : Path) → way.part (inward y p) ≡ n y
 
@@ -45,7 +45,7 @@ behind_is zero n p = let none : n ≡ 0 + n = omega arith in ap (λ j. j ∷ p) 
 behind_is (suc k) n p =
     let one : k + suc n ≡ suc k + n = omega arith in behind_is k (suc n) p ∙ ap (λ j. j ∷ p) one
 
--- the parts of what stands at a path
+-- the parts inside a path
 pub lays_on : (way : Way) (p : Path) (n : Leads) → Lays way p n → LaysOn way (0 ∷ p) n
 lays_on way p n h k y =
     subst (λ r. way.part (inward y r) ≡ n (k ∷ y)) (sym (behind_is k 0 p ∙ ap (λ j. j ∷ p) (add-zero k))) (h (k ∷ y))

@@ -1,4 +1,5 @@
--- What keeps values in the expanded text leads to the text as it was written, with all its parts.
+-- Each part of the expanded text that keeps values leads to a part of the original text, together with all
+-- parts inside it.
 use Rattle.std.proofs.Common.{◌≡◌, ◌∙◌, ℕ, suc, ◌+◌, ◌≤◌, pos, Bool, true, false, List, ◌∷◌, Option, Some, arith, sym}
 use Rattle.std.proofs.Common.{[], ap, subst, length, add-one}
 use Rattle.std.specs.Str.{bytes_eq}
@@ -27,7 +28,7 @@ use Rattle.cs_udo.specs.Names.{in_frame}
 use Rattle.cs_grammar.specs.declared.tree.Callee.TheVariants as callee
 use Rattle.cs_meaning.specs.Core as core
 
--- Where things stand doesn't depend on the world: a text is read in one in which nothing happens.
+-- Places don't depend on the world, so a text is read in a world in which nothing happens.
 abbrev still : {W : Type 0} → World W
 still = record {
   ksmps = 1;

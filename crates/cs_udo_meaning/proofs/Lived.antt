@@ -1,4 +1,4 @@
--- An instrument of an expanded and typed orchestra means the instrument with frames.
+-- An instrument of an expanded and typed orchestra has the meaning of the instrument with frames.
 use Rattle.std.proofs.Common.{◌≡◌, ◌∙◌, ℕ, suc, ◌+◌, ◌≤◌, List, ◌∷◌, ◌++◌, map, Some, None, Ok, arith, refl, sym, ap}
 use Rattle.std.proofs.Common.{[], subst, add-one}
 use Rattle.std.specs.List.{All, AllZip, slice_get}
@@ -37,12 +37,12 @@ at_first = omega arith
 named_in : (i : Instrument) → WellFormedInstrument i → NamedBlock (Fits 0) i.body
 named_in i well = block_named (Fits 0) (λ x h e. h) place.Instrument [] 0 i.body well.body
 
--- what the definitions in front of an instrument are in both texts
+-- the definitions before an instrument, in both texts
 abbrev pairs_before : (W : Type 0) (line : ℕ) (ds : List Definition)
     → AllPair (opcodes_before line ds) (actions_before W line ds)
 pairs_before W line ds = all_pair no_opcodes no_actions nothing_pairs (before line ds)
 
--- where an instrument's calls stand, and where the parts of its text do
+-- the paths of an instrument's calls, and the paths of its parts
 abbrev calls_of : (W : Type 0) → List Definition → Instrument → List Path
 calls_of W ds i = frames_of_block (actions_before W i.line ds) start.path i.body
 
@@ -74,7 +74,7 @@ module _ (W : Type 0) (ds : List Definition) (i : Instrument) where
   way_calls : All (λ p. (f : ℕ) × ((way_of W ds i).frame f ≡ Some p)) (calls_of W ds i)
   way_calls k d below = (suc k, slice_get-get_or (calls_of W ds i) k d below)
 
-  -- where something leads in the expanded text
+  -- each part that is reached is reached from a path of the expanded text
   from_path : (x : Path) → Reaches (leads_of W ds i) x → (p : Path) × ((way_of W ds i).part p ≡ Some x)
   from_path x r = (inward (r.part ∷ r.steps) [], ap (leads_of W ds i) (outward_again (r.part ∷ r.steps)) ∙ r.is)
 
@@ -97,7 +97,7 @@ module _ (W : Type 0) (ds : List Definition) (i : Instrument) where
     clear = way_clear;
   }
 
-  -- what keeps values in the expanded text, by any numbers of its names
+  -- the parts of the expanded text that keep values, for any numbers of its names
   way_leads : (g : Shared) (flat : Numbering) → Tells flat
       → All (λ p. (y : Path) → (q : Path) × ((way_of W ds i).part (y ++ p) ≡ Some q))
       (typed_keepers_of_block start.path (block_by g (numbered g flat) (expanded_instrument ds i).body))

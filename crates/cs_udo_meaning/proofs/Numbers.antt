@@ -1,4 +1,4 @@
--- Numberings that tell all names apart.
+-- Numberings that distinguish all names.
 use Rattle.std.proofs.lemmas.{Grind.common_steps, Slice.Eq.bytes_eq-Decides}
 use Rattle.std.proofs.Common.{◌≡◌, ◌∙◌, ℕ, zero, suc, ◌+◌, ◌<◌, true, not, if◌then◌else◌, List, [], ◌∷◌, length, arith}
 use Rattle.std.proofs.Common.{refl, sym, ap}
@@ -40,7 +40,7 @@ spelled_apart (b ∷ x) (c ∷ y) e =
 pub spelled_tells : Tells spelled
 spelled_tells x y r e = spelled_apart x y e
 
--- ---- the places of a table, and after them a number for every other name
+-- ---- the places of a table, followed by a number for every other name
 
 place_low : (xs : List (List ℕ)) (x : List ℕ) → has xs x ≡ true → place_of xs x < length xs
 place_low [] x h = absurd (cc h)

@@ -1,4 +1,4 @@
--- A definition's own names have the rates of the names that they stand for, and so have the expanded statements.
+-- A definition's renamed variables keep their rates, and so do the variables of the expanded statements.
 use Rattle.std.proofs.Common.{◌≡◌, ◌&&◌, ℕ, if◌then◌else◌, refl, ap}
 use Rattle.cs_base.specs.Rates.{is_init}
 use Rattle.cs_base.specs.declared.resource.Rate.TheVariants as rate

@@ -1,4 +1,4 @@
--- Paths from a whole inward: parts that differ have nothing in common. And lists of paths that differ.
+-- Paths that lead inward: different parts have nothing in common. And lists of different paths.
 use Rattle.std.proofs.Common.{◌≡◌, ◌≢◌, ◌∙◌, ℕ, zero, suc, ◌+◌, ◌≤◌, List, ◌∷◌, ◌++◌, length, Some, arith, refl, sym}
 use Rattle.std.proofs.Common.{[], ap, subst, append-nil}
 use Rattle.std.specs.List.{All, AllPairs, slice_get}
@@ -7,11 +7,12 @@ use Rattle.std.proofs.lemmas.List.Elements.{All-cons, All-nil}
 use Rattle.cs_base.proofs.Tests.{some_is}
 use Rattle.cs_meaning.specs.Notes.{Path}
 
--- the number behind both
+-- the next number after both lists
 pub further : {A : Type 0} (n : ℕ) (xs ys : List A) → (n + length xs) + length ys ≡ n + length (xs ++ ys)
 further n xs ys = omega (arith, length-append xs ys)
 
--- a path with more steps inward; and as it leads inward, from the body on
+-- A path extended by further steps inward; with an empty path, it reverses the direction: it then leads
+-- inward, from the body on.
 abbrev pub inward : Path → Path → Path
 inward [] p = p
 inward (k ∷ q) p = inward q (k ∷ p)
@@ -38,7 +39,7 @@ same_behind : (p a b : Path) → inward p a ≡ inward p b → a ≡ b
 same_behind [] a b e = e
 same_behind (k ∷ p) a b e = ap more_steps (same_behind p (k ∷ a) (k ∷ b) e)
 
--- steps inward from one place that end at one
+-- steps inward from one path that end at the same path are the same
 pub same_steps : (p a b : Path) → inward a p ≡ inward b p → a ≡ b
 same_steps p a b e =
     let both : inward p (a ++ []) ≡ inward p (b ++ []) =
@@ -49,18 +50,18 @@ longer : (p q : Path) → length q ≤ length (inward p q)
 longer [] q = omega arith
 longer (k ∷ p) q = omega (arith, longer p (k ∷ q))
 
--- what has a place in a part isn't the whole itself
+-- a path inside a part isn't the path of the complete text
 pub never_whole : (k : ℕ) (s r : Path) → [] ≡ inward s (k ∷ r) → ⊥
 never_whole k s r e = omega (arith, ap length e, longer s (k ∷ r))
 
--- ---- what lies in a part
+-- ---- paths inside a part
 
--- a path at another or inside it
+-- a path, or a path inside it
 pub record Inside (q x : Path) : Type 0 where
   pub steps : Path
   pub is : x ≡ inward steps q
 
--- a path at or inside one of the parts of a whole, from one on
+-- a path at or inside one of the parts with index k or later
 pub record Beyond (k : ℕ) (r x : Path) : Type 0 where
   pub part : ℕ
   pub low : k ≤ part
@@ -121,7 +122,7 @@ differ_joined P Q apart (x ∷ xs) ys p q h k = (
   differ_joined P Q apart xs ys p.1 q h.1 k,
 )
 
--- paths that differ, each of which is such
+-- different paths, each of which satisfies P
 pub record Lie (P : Path → Type 0) (xs : List Path) : Type 0 where
   pub each : Each P xs
   pub differ : Differ xs
@@ -132,7 +133,7 @@ none_lie P = record { each = tt; differ = tt }
 pub lie_wider : (P Q : Path → Type 0) → ((x : Path) → P x → Q x) → (xs : List Path) → Lie P xs → Lie Q xs
 lie_wider P Q f xs h = record { each = each_of P Q f xs h.each; differ = h.differ }
 
--- those of one part, and those of the parts behind it
+-- the paths inside one part, followed by the paths inside later parts
 pub joined_lie : (k : ℕ) (r : Path) (xs ys : List Path) → Lie (Inside (k ∷ r)) xs → Lie (Beyond (suc k) r) ys
     → Lie (Beyond k r) (xs ++ ys)
 joined_lie k r xs ys h g = record {
@@ -140,7 +141,7 @@ joined_lie k r xs ys h g = record {
   differ = differ_joined _ _ (next_apart _ _) _ _ h.each g.each h.differ g.differ;
 }
 
--- a path, and paths inside a part of it
+-- a path, followed by paths inside a part of it
 pub with_parts : (k : ℕ) (p : Path) (xs : List Path) → Lie (Inside (k ∷ p)) xs → Lie (Inside p) (p ∷ xs)
 with_parts k p xs h = record {
   each = (record { steps = []; is = refl }, each_of _ _ (inside_whole _ _) _ h.each);
@@ -164,7 +165,7 @@ each_got P [] h i x e = absurd (none-some x e)
 each_got P (y ∷ xs) h zero x e = subst P (some_is y x e) h.0
 each_got P (y ∷ xs) h (suc i) x e = each_got P xs h.1 i x e
 
--- a path has one place in such a list
+-- a path occurs only once in a list of different paths
 pub one_place : (xs : List Path) → Differ xs → (i j : ℕ) (x : Path) → slice_get xs i ≡ Some x → slice_get xs j ≡ Some x
     → i ≡ j
 one_place [] h i j x e f = absurd (none-some x e)

@@ -1,4 +1,5 @@
--- Statements with other names of the same rates: their typed form is theirs, with the variables of the other names.
+-- Statements with other names of the same rates: their typed form is the original typed form, with the
+-- variables of the other names.
 use Rattle.std.proofs.Common.{◌≡◌, ℕ, List, map}
 use Rattle.cs_grammar.specs.{declared.tree.Callee.Callee, Tree.Expression, Tree.Argument, Tree.set, Tree.call}
 use Rattle.cs_grammar.specs.Renaming.{renamed_expression, renamed_argument}

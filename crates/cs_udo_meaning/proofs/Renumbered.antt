@@ -1,4 +1,5 @@
--- The numbers of shared names: longer lists lead to those whose names they have, and by either an instrument has one
+-- The numbers of shared names: longer lists lead to the lists whose names they contain, and an instrument has
+-- the same life by either list.
 use Rattle.std.proofs.Common.{◌≡◌, ◌∙◌, ℕ, zero, suc, ◌+◌, Bool, true, false, not, if◌then◌else◌, List, ◌∷◌, [], length}
 use Rattle.std.proofs.Common.{map, arith, refl, sym, ap, subst}
 use Rattle.std.proofs.lemmas.{Slice.Eq.bytes_eq-Decides, Grind.common_steps}
@@ -34,11 +35,10 @@ use Rattle.cs_meaning.specs.Core as core
 use Rattle.cs_meaning.specs.Initialising as initial
 use Rattle.cs_meaning.specs.Performing as performing
 
--- life.
-
 -- ---- from place to place
 
--- the place among other names of the name at a place, or their number where there is none
+-- the place in the second list of the name at place n of the first; the length of the second list if there is
+-- no such name
 abbrev led : List (List ℕ) → List (List ℕ) → ℕ → ℕ
 led [] names n = length names
 led (y ∷ hs) names zero = place_of names y
@@ -94,9 +94,9 @@ names_lead g h k = (
   },
 )
 
--- ---- statements by either numbers
+-- ---- statements by either numbering
 
--- a variable by the numbers that are led to, and by those that lead there
+-- a variable with the number that is led to, and the variable with the number that leads there
 data LedVariable (to : Res → Res) : Variable → Variable → Type 0 where
   led_local : (r : Rate) (n : ℕ) → LedVariable to (Local r n) (Local r n)
   led_shared : (r : Res) → LedVariable to (Global (to r)) (Global r)
@@ -132,7 +132,7 @@ module _ {W : Type 0} (to : Res → Res) (g h : Shared) (lead : LeadsTo to h g) 
   same_channel channel.Sound t =
       subst (λ (r : Res). Same (Global r) (Global (res.Sound (place_of h.sound t)))) (lead.sound t) (led_shared _)
 
-  -- two notes that are one
+  -- two notes that are the same
   looks_same : (t u : Note W) → t ≡ u → (r : Rate) (v w : Variable) → Same v w → look o t r v ≡ look other u r w
   looks_same t u e r _ _ (led_local q n) = ap (λ (z : Note W). z.locals (reg q n)) e
   looks_same t u e r _ _ (led_shared k) = ap (λ (z : Note W). held o.ksmps r (o.load (to k) z.world)) e
@@ -285,7 +285,7 @@ module _ {W : Type 0} (to : Res → Res) (g h : Shared) (lead : LeadsTo to h g) 
 
 -- ---- lives
 
--- statements by the places of shared names in these lists
+-- statements, with shared names numbered by their places in these lists
 abbrev body_by : Shared → Numbering → Spaces → Block → core.Block
 body_by g number spaces b = core.core spaces (block_by g (numbered g number) b)
 
@@ -306,7 +306,7 @@ module _ {W : Type 0} (to : Res → Res) (g h : Shared) (lead : LeadsTo to h g) 
       ap (goes_on (body_by g number spaces b) cycles)
       (block_same to g h lead number spaces o beginning b start (new_note x)) ∙ cycles_same _ _
 
--- the expanded instrument, typed by these lists
+-- the expanded instrument, typed with these lists
 abbrev made_by : List Definition → Shared → Instrument → typed.Instrument
 made_by ds g i = record {
   line = i.line;

@@ -1,4 +1,4 @@
--- A note that stands as one with frames does: what a statement of a frame does to the one and to the other.
+-- A note that corresponds to a note with frames: the effect of a frame's statement on both.
 use Rattle.std.proofs.lemmas.{Grind.common_steps, Bool.and_parts, Bool.Decides.nat_tests, Slice.Eq.bytes_eq-Decides}
 use Rattle.std.proofs.Common.{◌≡◌, ◌∙◌, ℕ, ℤ, ◌==◌, Bool, true, false, if◌then◌else◌, List, ◌∷◌, map, Option, Some, []}
 use Rattle.std.proofs.Common.{None, arith, refl, sym, ap, subst}
@@ -85,7 +85,7 @@ variable_alike g flat own f x fits = by (is_global x) refl
         (subst (λ w. SameVariable flat own f (Local (name_rate x) (flat y)) w) (sym (numbered_own g own x e))
         (both_own x e fits))
 
--- ---- what is typed with them
+-- ---- the typed forms with these variables
 
 pub channel_alike : (V : Variable → Variable → Type 0) → ((g : Res) → V (Global g) (Global g))
     → (g : Shared) (kind : Channel) (t : List ℕ) → V (channel_of g kind t) (channel_of g kind t)
@@ -110,7 +110,7 @@ module _ {V : Variable → Variable → Type 0} {P : List ℕ → Type 0} (v w :
   results_alike [] n = no_variable
   results_alike (x ∷ xs) n = more_variables (v x) (w x) (map v xs) (map w xs) (h x n.0) (results_alike xs n.1)
 
-  -- two lists of shared names, by which channels have their numbers
+  -- two lists of shared names, which determine the numbers of channels
   module _ (g q : Shared) (k : (kind : Channel) (t : List ℕ) → V (channel_of g kind t) (channel_of q kind t)) where
     arguments_alike : (role : Option Channel) (args : List Argument) → NamedArguments P args
         → AlikeArguments V (arguments_by g v role args) (arguments_by q w role args)
@@ -133,13 +133,13 @@ module _ {V : Variable → Variable → Type 0} {P : List ℕ → Type 0} (v w :
     call_alike spaces line xs (callee.Opcode o) args n m =
         core_alike _ _ _ _ (results_alike _ n) (arguments_alike (channel_use (row_of o).shape xs args) args m)
 
--- ---- a note, and the note that a frame sees
+-- ---- a note, and the note as a frame sees it
 
--- a part of the expanded text stands where a part of the text does, and so do their parts
+-- a part of the expanded text leads to a part of the original text, and so do the parts inside it
 abbrev pub Follows : Way → Path → Path → Type 0
 Follows way p q = (y : Path) → way.part (inward y p) ≡ Some (inward y q)
 
--- the note as the frame with a number sees it, whose call stands at a path
+-- the note as the frame with number f sees it, whose call is at path p
 pub record Seen {W : Type 0} (way : Way) (flat own : Numbering) (f : ℕ) (p : Path) (u : Framed W) (t s : Note W)
     : Type 0 where
   pub mine : (x : List ℕ) → is_global x ≡ false → Fits f x

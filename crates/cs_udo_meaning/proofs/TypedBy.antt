@@ -1,4 +1,4 @@
--- The typed form of an orchestra without a fault is that of what is known at the end of its text.
+-- The typed form of an orchestra without a fault depends only on the names known at the end of its text.
 use Rattle.std.proofs.Common.{◌≡◌, ◌∙◌, ℕ, nat_lt, List, ◌∷◌, None, refl, [], arith}
 use Rattle.std.specs.List.{AllZip}
 use Rattle.cs_base.proofs.Tests.{both_none}

@@ -35,7 +35,7 @@ ascending : (n k : ℕ) (xs : List ℕ) → Ascend n k xs → AllPairs (λ f g. 
 ascending n k [] a = λ i j d p q. absurd (omega (arith, q))
 ascending n k (x ∷ xs) a = AllPairs-cons (λ f g. f < g) x xs (all_above x k xs a.1) (ascending (x + 1) k xs a.1)
 
--- numbers from one on, each the next
+-- consecutive numbers from n on
 abbrev Rise : ℕ → List ℕ → Type 0
 Rise n xs = Ascend n (n + length xs) xs
 

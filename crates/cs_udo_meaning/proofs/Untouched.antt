@@ -1,4 +1,5 @@
--- What statements of a frame leave as it was: every frame but theirs and those of the calls in them. And the frames of
+-- Statements of a frame change no frame except their own and the frames of the calls in them. The frames of
+-- different calls are different.
 use Rattle.std.proofs.Common.{◌≡◌, ◌≢◌, ◌∙◌, ℕ, Bool, true, false, if◌then◌else◌, List, ◌∷◌, Option, Some, []}
 use Rattle.std.proofs.Common.{None, refl, ap, arith}
 use Rattle.std.specs.{List.AllPairs, Str.bytes_eq as same_path}
@@ -25,14 +26,12 @@ use Rattle.cs_udo_meaning.proofs.Paths.{pairs_differ}
 use Rattle.cs_base.specs.declared.resource.Rate.TheVariants as rate
 use Rattle.cs_typed.specs.TypedTree as typed
 
--- calls differ.
-
 pub differ : (p q : Path) → p ≢ q → same_path p q ≡ false
 differ p q h = grind (arith, common_steps, bytes_eq-Decides)
 
 -- ---- the frames of calls
 
--- the calls in the body of a defined opcode
+-- the calls in the body of a user-defined opcode
 abbrev pub CallsLie : {W : Type 0} → Action W → Type 0
 CallsLie a = (p : Path) → Lie (Inside (1 ∷ p)) (a.calls p)
 
@@ -57,7 +56,7 @@ module _ {W : Type 0} (env : Actions W) (k : OfEach CallsLie env) where
         joined_lie _ _ _ _ (lie_wider _ _ (λ x h. beyond_whole 1 (i ∷ r) x (first_beyond _ _ _ (beyond_whole _ _ _ h)))
         _ (block_lies 0 (1 ∷ i ∷ r) b)) (arms_lie _ r rest)
 
-  -- the instrument's own frame among those of its calls
+  -- the instrument's own frame differs from the frames of its calls
   pub frames_differ : (i : ℕ) (r : Path) (b : Block) → Differ (own_frame ∷ frames_of_block env (i ∷ r) b)
   frames_differ i r b =
       let h = block_lies i r b in
@@ -75,9 +74,9 @@ pub calls_differ : (W : Type 0) (ds : List Definition) (i : ℕ) (r : Path) (b :
 calls_differ W ds i r b =
     pairs_differ (own_frame ∷ frames_of_block (actions_of W ds) (i ∷ r) b) (frames_differ _ (all_lie _ ds) i r b)
 
--- ---- what is left as it was
+-- ---- unchanged parts
 
--- Something of a note stays as it was by what is done in such frames at such places.
+-- A part of a note is unchanged by actions in such frames and at such places.
 pub record Stays {W A : Type 0} (m : Reading W) (seen : Framed W → A) (In At : Path → Type 0) : Type 0 where
   pub done : (w : When) (f : Path) → In f → (p : StatementPlace) → At p.path → (s : Stmt) (u : Framed W)
       → seen (put_back f (stmt_done w m.world p s (seen_from f u)) u) ≡ seen u
@@ -116,7 +115,7 @@ module _ {W A : Type 0} (m : Reading W) (seen : Framed W → A) (In At : Path �
       ∙ copy_stays w f h own there p at.0 x e u
   copies_stay w f h own there p _ _ u at = refl
 
-  -- by what a defined opcode does
+  -- it is unchanged by a user-defined opcode
   abbrev pub StaysIn : Action W → Type 0
   StaysIn a = (w : When) (p : StatementPlace) (u : Framed W) → In p.path → Each In (a.calls p.path)
       → Each At (a.keepers p.path) → seen (a.does m w p u) ≡ seen u
@@ -127,7 +126,7 @@ module _ {W A : Type 0} (m : Reading W) (seen : Framed W → A) (In At : Path �
   any_stays w f own p x xs args None k u i at = s.done w f own p at.0 (read m x) u
   any_stays w f own p x xs args (Some a) k u i at = grind (arith, common_steps, copies_stay, each_first, each_rest)
 
-  -- by the arms of an `if`
+  -- it is unchanged by the arms of an `if`
   record ArmsStay (env : Actions W) (f : Path) (p : StatementPlace) (list : Arms) : Type 0 where
     pub first : (u : Framed W) → seen (init_first m env f p list u) ≡ seen u
     pub all : (u : Framed W) → seen (init_all m env f p list u) ≡ seen u
@@ -190,7 +189,7 @@ module _ {W A : Type 0} (m : Reading W) (seen : Framed W → A) (In At : Path �
       (all_more StaysIn action (λ env k d w p u own i at. block_stays env k p.path own w (inside_arm p)
       (whole_body d) u i at) no_actions (of_none StaysIn) ds) f own w p b u i at
 
--- every frame but those of the statements
+-- every frame is unchanged except the frames of the statements
 pub frame_stays : {W : Type 0} (m : Reading W) (g : Path) → Stays m (λ u. u.frames g) (λ f. g ≢ f) (λ p. Unit {0})
 frame_stays {W} m g = record {
   done = λ w f h p at x u. elsewhere f h (stmt_done w m.world p x (seen_from f u)) u;

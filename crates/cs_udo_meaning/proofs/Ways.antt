@@ -1,4 +1,5 @@
--- The way from an expanded text to the text as it was written: where its statements and their parts stand there.
+-- The way from an expanded text back to the original text: the paths of its statements and their parts in the
+-- original.
 use Rattle.std.proofs.Common.{◌≡◌, ◌∙◌, ℕ, zero, suc, ◌+◌, Bool, true, false, if◌then◌else◌, List, ◌∷◌, ◌++◌, length}
 use Rattle.std.proofs.Common.{[], Option, Some, None, ◌⊎◌, inl, inr, arith, refl, sym, ap, add-one}
 use Rattle.std.specs.{Option.option_or, Str.bytes_eq}
@@ -17,7 +18,7 @@ use Rattle.cs_udo_meaning.proofs.Paths.{inward, inward_twice, same_steps, Inside
 use Rattle.cs_udo_meaning.proofs.Paths.{next_beyond, next_apart, further, Each, each_of, each_joined}
 use Rattle.cs_grammar.specs.declared.tree.Callee.TheVariants as callee
 
--- ---- where paths lead that go inward from a place of the expanded text
+-- ---- the targets of paths that lead inward from a place of the expanded text
 
 abbrev pub Leads : Type 0
 Leads = Path → Option Path
@@ -25,24 +26,24 @@ Leads = Path → Option Path
 abbrev pub nowhere : Leads
 nowhere y = None
 
--- each part to the same part of what stands at a path
+-- each part leads to the same part of path q
 abbrev pub alike : Path → Leads
 alike q y = Some (inward y q)
 
--- those into the first part, and those into the parts behind it
+-- paths into the first part, and paths into the later parts
 abbrev pub parts : Leads → Leads → Leads
 parts first behind [] = None
 parts first behind (zero ∷ y) = first y
 parts first behind (suc k ∷ y) = behind (k ∷ y)
 
--- assignments of arguments of which the first stands at a path
+-- assignments of arguments; the first leads to path q
 abbrev pub copies_lead : Path → List (List ℕ) → List Argument → Leads → Leads
 copies_lead q (x ∷ xs) (value e ∷ args) behind = parts (parts (alike q) nowhere) (copies_lead (next q) xs args behind)
 copies_lead q xs args behind = behind
 
--- ---- no two lead to one place
+-- ---- no two paths lead to the same path
 
--- whither something leads
+-- some path leads to x
 pub record Has (n : Leads) (x : Path) : Type 0 where
   pub steps : Path
   pub is : n steps ≡ Some x
@@ -54,7 +55,7 @@ pub record Within (P : Path → Type 0) (n : Leads) : Type 0 where
   pub range : (y x : Path) → n y ≡ Some x → P x
   pub sharp : Sharp n
 
--- What was there stays there, and what comes to it leads to such paths, no two to one.
+-- Existing targets remain; the added targets satisfy P, and no two paths lead to the same one.
 pub record Adds (P : Path → Type 0) (behind n : Leads) : Type 0 where
   pub from : (y x : Path) → n y ≡ Some x → P x ⊎ Has behind x
   pub sharp : Sharp behind → ((x : Path) → Has behind x → P x → ⊥) → Sharp n
@@ -102,7 +103,7 @@ both_added P Q R f g apart a b c h k = record {
       (λ x t q. ⊎_elim (λ p. apart x q p) (λ z. off x z (g x q)) (h.from t.steps x t.is));
 }
 
--- those of one part before those of the parts behind it
+-- the targets of one part, before the targets of the later parts
 one_more : (k : ℕ) (r : Path) (a b c : Leads) → Adds (Beyond (suc k) r) a b → Adds (Inside (k ∷ r)) b c
     → Adds (Beyond k r) a c
 one_more k r = both_added _ _ _ (next_beyond _ _) (first_beyond _ _) (next_apart _ _)
@@ -125,22 +126,22 @@ copies_add k r (x ∷ xs) (value e ∷ args) behind =
     one_more _ _ _ _ _ (copies_add _ r xs args behind) (part_added _ _ _ (last_within _ _ (alike_within _)))
 copies_add k r _ _ behind = nothing_added (Beyond k r) behind
 
--- ---- to each part of what keeps values something leads
+-- ---- every part that keeps values is reached
 
--- a part to which something leads, and which part of it that is
+-- a part that leads to x, and the steps inside this part
 pub record Reaches (n : Leads) (x : Path) : Type 0 where
   pub part : ℕ
   pub steps : Path
   pub is : n (part ∷ steps) ≡ Some x
 
--- to each part of what stands at a path, from somewhere and from a part
+-- each part inside a path is reached, by a path that leads into a part
 abbrev HasWhole : Leads → Path → Type 0
 HasWhole n q = (y : Path) → Has n (y ++ q)
 
 abbrev pub Whole : Leads → Path → Type 0
 Whole n q = (y : Path) → Reaches n (y ++ q)
 
--- What was reached stays so, and each part of these is reached.
+-- Parts that were reached still are, and each part of these paths is reached.
 pub record Keeps (behind n : Leads) (qs : List Path) : Type 0 where
   pub stays : (x : Path) → Reaches behind x → Reaches n x
   pub each : Each (Whole n) qs
@@ -163,7 +164,7 @@ part_kept n a qs h = record {
 inner_kept : (n a : Leads) (qs : List Path) → Each (Whole n) qs → Keeps a (parts n a) qs
 inner_kept n a qs h = part_kept n a qs (reached_whole n qs h)
 
--- those of a part before those of the parts behind it
+-- the paths in one part, before the paths in the later parts
 both_kept : (a b c : Leads) (xs ys : List Path) → Keeps b c xs → Keeps a b ys → Keeps a c (xs ++ ys)
 both_kept a b c xs ys h k = record {
   stays = λ x r. h.stays x (k.stays x r);
@@ -179,10 +180,10 @@ copies_kept q (x ∷ xs) (value e ∷ args) behind =
     both_kept _ _ _ (q ∷ []) _ (inner_kept _ _ _ (alike_kept q nowhere).each) (copies_kept (next q) xs args behind)
 copies_kept q _ _ behind = nothing_kept behind
 
--- ---- what a defined opcode is in both texts
+-- ---- a user-defined opcode in both texts
 
--- The same names; as many frames as calls; and where the statements of its body lead, for a call at a path: to each
--- part of what keeps values there.
+-- Both have the same names and the same number of frames as calls. For a call at a path, the statements of
+-- the expanded body lead to each part of the original body that keeps values.
 pub record Pair {W : Type 0} (t : Template) (a : Action W) : Type 0 where
   pub inputs : t.inputs ≡ a.inputs
   pub results : t.results ≡ a.results
@@ -191,7 +192,7 @@ pub record Pair {W : Type 0} (t : Template) (a : Action W) : Type 0 where
   pub adds : (p : Path) (behind : Leads) → Adds (Inside (1 ∷ p)) behind (leads p behind)
   pub keeps : (p : Path) (behind : Leads) → Keeps behind (leads p behind) (a.keepers p)
 
--- what is defined in both texts, or in neither
+-- an opcode is defined in both texts, or in neither
 pub data PairIf {W : Type 0} : Option Template → Option (Action W) → Type 0 where
   neither : PairIf None None
   both : (t : Template) (a : Action W) → Pair t a → PairIf (Some t) (Some a)
@@ -296,7 +297,7 @@ module _ {W : Type 0} (opcodes : Opcodes) (env : Actions W) (k : AllPair opcodes
         both_kept _ _ _ first _ (inner_kept _ _ _ (both_kept nowhere _ _ _ _ (alike_kept (0 ∷ q) _)
         (inner_kept _ _ _ (block_kept (0 ∷ 1 ∷ q) b nowhere).each)).each) (arms_kept _ rest)
 
-  -- ---- the frame behind statements
+  -- ---- the frame after statements
 
   call_after : {t : Option Template} {a : Option (Action W)} → PairIf t a → (n : ℕ) (p : Path)
       → after_called n t ≡ n + length (frames_of_call p a)

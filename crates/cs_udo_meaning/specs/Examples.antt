@@ -1,4 +1,4 @@
--- Small instruments with defined opcodes, which are worked out by frames.
+-- Small instruments with user-defined opcodes, for worked examples with frames.
 use Rattle.std.specs.Prelude.{ℕ, ℤ, pos, ◌+◌, ◌+ℤ◌, List, [], ◌∷◌, codes, map}
 use Rattle.std.specs.List.{range_with_len}
 use Rattle.cs_words.specs.NameSets.{place_of}
@@ -19,23 +19,25 @@ use Rattle.cs_words.specs.declared.catalogue.Opcode.TheVariants as opcode
 abbrev i1 : List ℕ
 i1 = codes "i1"
 
--- the pieces of cs_meaning's examples, whose notes have 7 in each field; and one whose notes have 5 in each
+-- the pieces of cs_meaning's examples, in which each p-field of a note is 7
 abbrev pub sevens : Piece
 sevens = small_piece 0 0
 
+-- a piece in which each p-field of a note is 5
 abbrev pub of_fives : Piece
 of_fives = record sevens { fields = λ n. whole 5 }
 
--- a piece in which a unit gives the sum of its first inputs so far
+-- a piece in which a unit returns the sum of its first inputs so far
 abbrev sum_so_far : List (List ℤ) → ℤ
 sum_so_far [] = pos 0
 sum_so_far ([] ∷ rest) = sum_so_far rest
 sum_so_far ((x ∷ xs) ∷ rest) = x +ℤ sum_so_far rest
 
+-- a piece in which a unit returns the sum of its first inputs so far
 abbrev pub of_sums : Piece
 of_sums = record sevens { generators = record { gen = λ opcode r is h. sum_so_far h; delay = sevens.generators.delay } }
 
--- local names by their places among those of these examples, places of results among them
+-- the local names of these examples, results of `xout` included; a name's number is its place in the list
 abbrev known_names : List (List ℕ)
 known_names = k1 ∷ k2 ∷ k3 ∷ i1 ∷ a1 ∷ slot 0 rate.Control ∷ slot 1 rate.Control ∷ slot 0 rate.Init ∷ []
 
@@ -45,7 +47,7 @@ no_shared = record { globals = no_names; control = []; sound = [] }
 abbrev read_in : Piece → Reading Plain
 read_in piece = reading (plain piece) piece.spaces no_shared (place_of known_names)
 
--- what a note sounds at each of the four frames of a cycle, in the first two cycles
+-- the sound of a note at each of the four frames of a cycle, in the first two cycles
 abbrev four : Framed Plain → List ℤ
 four u = map (u.world.outs 0) (range_with_len 0 4)
 
@@ -55,20 +57,21 @@ next piece ds i u = performs (read_in piece) ds i (framed_in (next_cycle u.world
 abbrev two_cycles : Piece → List Definition → Instrument → Framed Plain → List (List ℤ)
 two_cycles piece ds i u = let first = next piece ds i u in four first ∷ four (next piece ds i first) ∷ []
 
+-- the sound of a note in the first two cycles
 abbrev pub heard : Piece → List Definition → List Statement → List (List ℤ)
 heard piece ds body =
     let i : Instrument = record { line = 8; numbers = 1 ∷ []; body = statements body } in
     two_cycles piece ds i (begins (read_in piece) ds i (new_framed (fresh (λ g. silence))))
 
--- where the calls stand that have the frames of statements
+-- the paths of the calls that have the frames of statements
 abbrev pub framed : List Definition → List Statement → List Path
 framed ds body = frames_of_block (actions_of Plain ds) start.path (statements body)
 
--- where that stands which may keep values of statements
+-- the paths of the parts of statements that may keep values
 abbrev pub keeping : List Definition → List Statement → List Path
 keeping ds body = keepers_of_block (actions_of Plain ds) start.path (statements body)
 
--- a1 has a value and goes out
+-- a1 is assigned a value and is output
 abbrev sounds : ℕ → Expression → List Statement
 sounds line e = set line a1 e ∷ known (line + 1) [] opcode.Out (variable a1 ∷ []) ∷ []
 
@@ -83,6 +86,7 @@ tells = sounds 20 tens_and_ones
 abbrev count_into : ℕ → List ℕ → Statement
 count_into line result = own line (result ∷ []) (codes "Count") []
 
+-- k1 Count / k2 Count / a1 = k1 * 10 + k2 / out a1
 abbrev pub counted : List Statement
 counted = count_into 9 k1 ∷ count_into 10 k2 ∷ tells
 

@@ -1,4 +1,5 @@
--- What a call of a defined opcode means: each place of a call has a frame of its own, with local variables of its own.
+-- The meaning of a call of a user-defined opcode: each place of a call has a separate frame with its local
+-- variables.
 use Rattle.std.specs.Prelude.{ℕ, ℤ, pos, ◌+◌, length, List, [], ◌∷◌, ◌++◌, map, Option, Some, None, if◌then◌else◌}
 use Rattle.std.specs.Str.{bytes_eq as same_path}
 use Rattle.cs_words.specs.Names.{name_rate}
@@ -17,70 +18,78 @@ use Rattle.cs_udo.specs.{Expanded.before, Expanded.whole_body, Names.slots}
 use Rattle.cs_udo_meaning.specs.Numbered.{Numbering, numbered, expression_by, statement_by}
 use Rattle.cs_typed.specs.TypedTree as typed
 
--- A note with frames: the local variables of each frame, by where the call stands whose frame it is; the values that it
--- keeps from its initialisation, by where they stand in the text; and the state of the world that it sounds in.
+-- A note with frames: the local variables of each frame, by the path of the call that has this frame; the
+-- values kept from its initialisation, by their paths in the text; and the state of the world in which it
+-- plays.
 pub record Framed (W : Type 0) : Type 0 where
   pub frames : Path → Reg → Wave
   pub kept : Path → ℤ
   pub world : W
 
--- the frame of the instrument's own variables: that of its body as a whole
+-- the frame of the instrument's own variables, whose path is empty
 abbrev pub own_frame : Path
 own_frame = []
 
--- a note with frames that begins: all variables of all frames are 0
+-- a note with frames that begins; all variables of all frames are 0
 abbrev pub new_framed : {W : Type 0} → W → Framed W
 new_framed x = record { frames = λ f q. silence; kept = λ p. pos 0; world = x }
 
+-- a note with frames in another state of the world
 abbrev pub framed_in : {W : Type 0} → W → Framed W → Framed W
 framed_in x u = record u { world = x }
 
--- The note as a frame sees it, and the note with what has become of it there.
+-- The note as a frame sees it.
 abbrev pub seen_from : {W : Type 0} → Path → Framed W → Note W
 seen_from f u = record { locals = u.frames f; kept = u.kept; world = u.world }
 
+-- a note with frames after the changes made to the note of one frame
 abbrev pub put_back : {W : Type 0} → Path → Note W → Framed W → Framed W
 put_back f t u =
     record { frames = λ g. if same_path g f then t.locals else u.frames g; kept = t.kept; world = t.world }
 
--- How statements are read: in a world, with its zak spaces, by the names that notes share and the numbers of local
--- variables.
+-- The reading of statements: in a world, with its zak spaces, with the names of shared resources and the
+-- numbers of local variables.
 pub record Reading (W : Type 0) : Type 0 where
   pub world : World W
   pub spaces : Spaces
   pub shared : Shared
   pub number : Numbering
 
+-- the variable of a name
 abbrev pub variable_read : {W : Type 0} → Reading W → List ℕ → Var
 variable_read m x = numbered m.shared m.number x
 
+-- an expression with a variable for each name
 abbrev pub expression_read : {W : Type 0} → Reading W → Expression → typed.Expression
 expression_read m e = expression_by (numbered m.shared m.number) e
 
+-- the core statement of a statement
 abbrev pub read : {W : Type 0} → Reading W → Statement → Stmt
 read m x = core_stmt m.spaces (statement_by m.shared (numbered m.shared m.number) x)
 
--- As a note begins something is done, or else in a control cycle.
+-- The first argument as a note begins, the second in a control cycle.
 abbrev pub by_pass : {A : Type 0} → When → A → A → A
 by_pass beginning x y = x
 by_pass cycle x y = y
 
--- what a statement does in a note
+-- the effect of a statement on a note
 abbrev pub stmt_done : {W : Type 0} → When → World W → StatementPlace → Stmt → Note W → Note W
 stmt_done w o p s t = by_pass w (init_stmt o p s t) (perf_stmt o p s t)
 
--- a statement without calls of defined opcodes does in its frame what it does in a note
+-- a statement without calls of user-defined opcodes has the same effect in its frame as in a note
 abbrev pub plain_done : {W : Type 0} → Reading W → When → Path → StatementPlace → Statement → Framed W → Framed W
 plain_done m w f p x u = put_back f (stmt_done w m.world p (read m x) (seen_from f u)) u
 
--- A variable of frame g takes the value of an expression in frame f that stands at a path: a variable of rate Init as
--- the note begins, any other in each cycle.
+-- After something was refused, nothing more is done.
 abbrev pub going_on : {W : Type 0} → World W → Framed W → Framed W → Framed W
 going_on o u next = if o.refused u.world then u else next
 
+-- a variable of frame g is assigned a value
 abbrev pub copied : {W : Type 0} → Reading W → Path → List ℕ → Wave → Framed W → Framed W
 copied m g x w u = put_back g (assign m.world (variable_read m x) w (seen_from g u)) u
 
+-- A variable of frame g is assigned the value of an expression in frame f at path p: an i-rate variable as the
+-- note begins, any other variable in each cycle.
 abbrev pub copy_done : {W : Type 0} → Reading W → When → Path → Path → Path → List ℕ → Expression → Framed W → Framed W
 copy_done m beginning f g p x e u = going_on m.world u (if_init (name_rate x)
     (copied m g x (value_of m.world (seen_from f u) beginning [] (expression_read m e)) u)
@@ -88,18 +97,20 @@ copy_done m beginning f g p x e u = going_on m.world u (if_init (name_rate x)
 copy_done m cycle f g p x e u =
     if_init (name_rate x) u (copied m g x (value_of m.world (seen_from f u) cycle p (expression_read m e)) u)
 
--- Variables of frame g take the values of arguments in frame f, from left to right. The first argument stands at the
--- path, the others behind.
+-- Variables of frame g are assigned the values of arguments in frame f, from left to right. The first
+-- argument has this path, and each further one the next path.
 abbrev pub copies_done : {W : Type 0} → Reading W → When → Path → Path → Path → List (List ℕ) → List Argument
     → Framed W → Framed W
 copies_done m w f g p (x ∷ xs) (value e ∷ args) u =
     copies_done m w f g (next p) xs args (copy_done m w f g p x e u)
 copies_done m w f g p xs args u = u
 
--- What a defined opcode is to its callers: the names of its inputs and of its results; the frames of the calls in its
--- body and the places of what keeps values there, for a call of it at a path; the numbers of the units in its body,
--- from a first one on; and what its body does for a call at a place, however it is read, as a note begins and in a
--- cycle.
+-- A user-defined opcode as its callers see it.
+-- - The names of its inputs and of its results.
+-- - For a call at a path: the frames of the calls in its body, and the paths of the parts that keep values
+--   there.
+-- - The numbers of the units in its body, from a first number on.
+-- - The effect of its body for a call at a place, for any reading, as a note begins and in a cycle.
 pub record Action (W : Type 0) : Type 0 where
   pub inputs : List (List ℕ)
   pub results : List (List ℕ)
@@ -108,14 +119,15 @@ pub record Action (W : Type 0) : Type 0 where
   pub units : Reading W → ℕ → List ℕ
   pub does : Reading W → When → StatementPlace → Framed W → Framed W
 
--- the defined opcodes that may be called, by name
+-- the user-defined opcodes that may be called, by name
 abbrev pub Actions : Type 0 → Type 0
 Actions W = ByName (Action W)
 
+-- no user-defined opcodes
 abbrev pub no_actions : {W : Type 0} → Actions W
 no_actions name = None
 
--- what the defined opcode that is called does, if it is one
+-- the action of the called opcode, if it is user-defined
 abbrev pub action_of : {W : Type 0} → Actions W → Callee → Option (Action W)
 action_of env c = item_of env c
 
@@ -123,8 +135,9 @@ action_of env c = item_of env c
 abbrev pub values_in : List (List ℕ) → List Argument
 values_in xs = map (λ x. value (var x)) xs
 
--- A call from frame f: its frame is that of its path. Its parts are its arguments, its body, and the values of `xout`.
--- The inputs take the values of the arguments; the body is done; the results take the values of `xout`.
+-- A call from frame f has the frame with its own path. Its parts are its arguments, its body, and the values
+-- of `xout`. The inputs are assigned the values of the arguments; the body is performed; the results are
+-- assigned the values of `xout`.
 abbrev pub call_done : {W : Type 0} → Reading W → When → Path → StatementPlace → Action W → List (List ℕ)
     → List Argument
     → Framed W → Framed W
@@ -132,15 +145,15 @@ call_done m w f p a xs args u =
     copies_done m w p.path f (0 ∷ 2 ∷ p.path) xs (values_in a.results)
     (a.does m w p (copies_done m w f p.path (0 ∷ 0 ∷ p.path) a.inputs args u))
 
--- a call of a defined opcode, or else of one of the catalogue
+-- a call of a user-defined opcode, or otherwise of an opcode of the catalogue
 abbrev pub any_done : {W : Type 0} → Reading W → When → Path → StatementPlace → Statement → List (List ℕ)
     → List Argument
     → Option (Action W) → Framed W → Framed W
 any_done m w f p x xs args None u = plain_done m w f p x u
 any_done m w f p x xs args (Some a) u = call_done m w f p a xs args u
 
--- The frames of the calls in statements, in the order of the text: that of a call, and then those of the calls in its
--- body.
+-- The frames of the calls in statements, in the order of the text: the frame of a call comes before the
+-- frames of the calls in its body.
 abbrev pub frames_of_call : {W : Type 0} → Path → Option (Action W) → List Path
 frames_of_call p None = []
 frames_of_call p (Some a) = p ∷ a.calls p
@@ -159,13 +172,14 @@ abbrev mutual
   frames_of_arms env p (otherwise b) = frames_of_block env (0 ∷ p) b
   frames_of_arms env p (arm c b rest) = frames_of_block env (0 ∷ 1 ∷ p) b ++ frames_of_arms env (next p) rest
 
--- Where in statements that stands which may keep values, each at places of its own parts, in the order of the text: the
--- statements that are no calls of defined opcodes, the conditions of `if`, and of a call the values that its inputs
--- take, what stands in its body, and the values that its results take.
+-- The paths of the parts of statements that may keep values, in the order of the text. They are statements
+-- that aren't calls of user-defined opcodes, and the conditions of `if`. For a call they are the values that
+-- its inputs are assigned, the parts of its body, and the values that its results are assigned.
 abbrev pub keepers_of_copies : Path → List (List ℕ) → List Argument → List Path
 keepers_of_copies p (x ∷ xs) (value e ∷ args) = p ∷ keepers_of_copies (next p) xs args
 keepers_of_copies p xs args = []
 
+-- the paths of the parts of a call that may keep values
 abbrev pub keepers_of_call : {W : Type 0} → Path → List (List ℕ) → List Argument → Option (Action W) → List Path
 keepers_of_call p xs args None = p ∷ []
 keepers_of_call p xs args (Some a) =
@@ -187,8 +201,8 @@ abbrev mutual
   keepers_of_arms env p (arm c b rest) =
       ((0 ∷ p) ∷ keepers_of_block env (0 ∷ 1 ∷ p) b) ++ keepers_of_arms env (next p) rest
 
--- The same of the expanded text, in which no defined opcode is called: a value that a call copies is that of an
--- assignment there.
+-- The paths of the parts that may keep values in the expanded text, which calls no user-defined opcode. A
+-- value that a call copies is the value of an assignment there.
 abbrev mutual
   pub typed_keepers : Path → typed.Statement → List Path
   typed_keepers p (typed.set line r v e) = (0 ∷ p) ∷ []
@@ -204,12 +218,13 @@ abbrev mutual
   typed_keepers_of_arms p (typed.arm c b rest) =
       ((0 ∷ p) ∷ typed_keepers_of_block (0 ∷ 1 ∷ p) b) ++ typed_keepers_of_arms (next p) rest
 
--- The numbers of the units in statements from a first one on, in the order of the text, those in the bodies of calls
--- too: by its number a unit has its inputs so far.
+-- The numbers of the units in statements from a first number on, in the order of the text, including the
+-- units in the bodies of calls. A unit records its inputs so far under its number.
 abbrev pub unit_of : ℕ → Stmt → List ℕ
 unit_of n (unit r vs opcode reach xs is) = n ∷ []
 unit_of n _ = []
 
+-- the numbers of the units in a call
 abbrev pub units_of_call : {W : Type 0} → Reading W → ℕ → Statement → Option (Action W) → List ℕ
 units_of_call m n x None = unit_of n (read m x)
 units_of_call m n x (Some a) = a.units m n
@@ -230,15 +245,17 @@ abbrev mutual
   units_of_arms m env n (arm c b rest) =
       let first = units_of_block m env n b in first ++ units_of_arms m env (n + length first) rest
 
--- the place behind a statement, and behind an arm with these statements
+-- the place after a statement
 abbrev pub past : {W : Type 0} → Reading W → Actions W → StatementPlace → Statement → StatementPlace
 past m env p x = record { path = next p.path; unit = p.unit + length (units_of m env p.unit x) }
 
+-- the place after an arm with these statements
 abbrev pub past_arm : {W : Type 0} → Reading W → Actions W → StatementPlace → Block → StatementPlace
 past_arm m env p b = record { path = next p.path; unit = p.unit + length (units_of_block m env p.unit b) }
 
--- What statements of frame f do. As the note begins an `if` whose conditions are all known then is decided once; of any
--- other all arms are initialised. In a control cycle an `if` takes the first arm whose condition holds.
+-- The effect of the statements of frame f. As the note begins, an `if` whose conditions are all known then is
+-- decided once; all arms of any other `if` are initialised. In a control cycle an `if` takes the first arm
+-- whose condition holds.
 abbrev mutual
   pub framed_done : {W : Type 0} → Reading W → Actions W → When → Path → StatementPlace → Statement → Framed W
       → Framed W
@@ -277,8 +294,8 @@ abbrev mutual
       then block_done m env cycle f (inside_arm p) b u
       else perf_arms m env f (past_arm m env p b) rest u
 
--- What a definition does for a call: its statements, and then the values of `xout`, which go into places of the call's
--- frame.
+-- The action of a definition for a call: its statements, then the values of `xout`, which are assigned to
+-- variables of the call's frame.
 abbrev pub action : {W : Type 0} → Actions W → Definition → Action W
 action env d = record {
   inputs = d.names;
@@ -289,16 +306,18 @@ action env d = record {
   does = λ m w p u. block_done m env w p.path (inside_arm p) (whole_body d) u;
 }
 
--- the opcodes after one more definition, and after more: each may call those before it
+-- the opcodes after one more definition, and after several more; each may call only earlier ones
 abbrev pub acting : {W : Type 0} → Actions W → Definition → Actions W
 acting env d = with_item action env d
 
+-- the opcodes after several more definitions; each may call only earlier ones
 abbrev pub acting_all : {W : Type 0} → Actions W → List Definition → Actions W
 acting_all env ds = with_items action env ds
 
--- the opcodes that these definitions define, and those that are defined in front of a line
+-- the opcodes of these definitions
 abbrev pub actions_of : (W : Type 0) → List Definition → Actions W
 actions_of W ds = acting_all no_actions ds
 
+-- the opcodes that are defined before a line
 abbrev pub actions_before : (W : Type 0) → ℕ → List Definition → Actions W
 actions_before W line ds = actions_of W (before line ds)

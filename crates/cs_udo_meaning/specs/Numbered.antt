@@ -1,5 +1,5 @@
--- The typed form of statements where a variable is given for each name: what typing gives where all names of a text are
--- known. Of expressions and of calls cs_typing says it.
+-- The typed form of statements, given a variable for each name. Typing produces this form once all names of a
+-- text are known. cs_typing defines it for expressions and calls.
 use Rattle.std.specs.Prelude.{ℕ, zero, suc, ◌+◌, List, [], ◌∷◌, ◌≡◌, if◌then◌else◌}
 use Rattle.cs_words.specs.Names.{name_rate, is_global}
 use Rattle.cs_grammar.specs.Tree.{Statement, set, call, choose, Block, no_stmt, andthen, Arms, otherwise, arm}
@@ -13,26 +13,27 @@ pub use Rattle.cs_typing.specs.Expressions.{Variables, expression_by}
 abbrev pub Numbering : Type 0
 Numbering = List ℕ → ℕ
 
--- A numbering tells names apart: two names of a rate have two numbers.
+-- A numbering distinguishes names: two names of the same rate have different numbers.
 abbrev pub Tells : Numbering → Type 0
 Tells s = (x y : List ℕ) → name_rate x ≡ name_rate y → s x ≡ s y → x ≡ y
 
--- A number for every name whatever: it tells all names apart.
+-- A number for every possible name, which distinguishes all names.
 abbrev pub pushed : ℕ → ℕ → ℕ
 pushed zero n = suc (n + n)
 pushed (suc b) n = pushed b n + pushed b n
 
+-- a number for every name, made of its bytes
 abbrev pub spelled : Numbering
 spelled [] = 0
 spelled (b ∷ bs) = pushed b (spelled bs)
 
--- what notes share has its number among the shared names of its rate
+-- a shared name has its number among the shared names of its rate
 abbrev pub numbered : Shared → Numbering → Variables
 numbered g s name =
     if is_global name then variant.Global (global (name_rate name) (place_in g.globals name))
     else variant.Local (name_rate name) (s name)
 
--- statements, with their variables
+-- statements, with a variable for each name
 abbrev mutual
   pub statement_by : Shared → Variables → Statement → typed.Statement
   statement_by g v (set line name e) = typed.set line (name_rate name) (v name) (expression_by v e)

@@ -1,15 +1,16 @@
-//! What calls of defined opcodes mean, and that an expanded orchestra means it.
+//! The meaning of calls of user-defined opcodes, and the proof that an expanded orchestra has this meaning.
 //!
-//! A crate of definitions and laws. specs/Frames says what a note does whose places of calls have frames, a frame for
-//! each place, in any world and over the meaning of one statement (cs_meaning); specs/Stands how a note of the expanded
-//! text stands to it; specs/Lives what a note is from its beginning on, and `MeansFrames`, that the one means the
-//! other; specs/Numbered the typed form of statements by a number for each local name, and specs/Typed that this is
-//! what typing gives; specs/Renumbered worlds with other numbers for what notes share; specs/Examples small
-//! instruments.
+//! A crate of definitions and laws. specs/Frames defines the actions of a note in which each place of a call
+//! has a separate frame, in any world, from the meaning of single statements (cs_meaning). specs/Stands
+//! relates a note of the expanded text to the note with frames. specs/Lives defines the life of a note from
+//! its beginning on, and `MeansFrames`, which states that both notes have the same life. specs/Numbered
+//! defines the typed form of statements by a number for each local name, and specs/Typed states that typing
+//! produces this form. specs/Renumbered has worlds with other numbers for shared resources, and
+//! specs/Examples small instruments.
 //!
-//! Its one contract: `expansion_means_calls`, which cs_compile takes up to what texts mean (`pieces_mean_their_calls`),
-//! and `expansions_can_be_lowered`, on which the compiling of texts rests. How names are made fresh and how frames are
-//! numbered may be changed in cs_udo without anyone above noticing.
+//! Its one contract: `expansion_means_calls`, which cs_compile extends to the meaning of texts
+//! (`pieces_mean_their_calls`), and `expansions_can_be_lowered`, on which the compiling of texts depends. The
+//! way cs_udo makes names fresh and numbers frames may be changed without anyone above noticing.
 #![tactic(auto)]
 
 mod laws;

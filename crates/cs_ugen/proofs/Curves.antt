@@ -1,4 +1,4 @@
--- How long a curve is.
+-- The length of a curve.
 use Rattle.std.proofs.Common.{◌≡◌, ℕ, ◌+◌, ◌%◌, ◌≤◌, Bool, true, false, ◌||◌, ◌==◌, List, [], ◌∷◌, length, ℤ, pos, refl}
 use Rattle.std.proofs.Common.{ap, sym, arith, subst, nat_le, ◌&&◌, unsigned_abs, Some, None, if◌then◌else◌}
 use Rattle.std.specs.{List.list_any, List.list_all, Ordering.int_eq}
@@ -26,7 +26,7 @@ any_bounds n (x ∷ xs) all any =
     (λ e. let is : n ≡ x = grind (arith, nat_tests) in (omega arith, omega arith))
     (λ e. any_bounds n xs b.2 e)
 
--- a power of two of the list is from 2 to 65,536
+-- a power of two from the list of lengths is from 2 to 65,536
 pub is_len-bounds : (n : ℕ) → is_len n ≡ true → (2 ≤ n) × (n ≤ 65536)
 unfolding lengths
 is_len-bounds n h = any_bounds n lengths refl h
@@ -70,7 +70,7 @@ no_fault : (a b c : Bool)
 no_fault true b c h = refl
 no_fault false b c h = absurd cc
 
--- the length of a made table
+-- the length of a made table is a power of two
 pub made_len : (size gen : ℤ) (args points : List ℤ) → table_fault size gen args ≡ None → IsMade size gen args points →
     is_len (len_of (length points)) ≡ true
 unfolding table_fault

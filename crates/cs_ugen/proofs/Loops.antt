@@ -1,4 +1,4 @@
--- Steps of a block: their inputs were read one by one, or the frequency is held.
+-- The steps of a block: their inputs are read one by one, or the frequency is constant.
 use Rattle.std.proofs.Common.{◌≡◌, ℕ, ℤ, ◌+◌, ◌%◌, ◌<◌, ◌≤◌, List, [], ◌∷◌, ◌++◌, length, get_or, set, refl, ap, sym}
 use Rattle.std.proofs.Common.{subst, ◌∙◌, arith}
 use Rattle.cs_signal.proofs.{Operands.one, Walks.HasRun_none, Walks.HasRun_step, Walks.HasRun_end}
@@ -11,14 +11,14 @@ pub step_at : {S : Type 0} (step : S → List ℤ → S × ℤ) (s : S) (x x' : 
     result ≡ step s (x ∷ points) → x ≡ x' → points ≡ points' → result ≡ step s (x' ∷ points')
 step_at step s x x' points points' result e p q = cc
 
--- a block whose frequency is held: before its first step
+-- a block with a constant frequency, before its first step
 pub held_none : (step : Turning → List ℤ → Turning × ℤ) (at : ℕ → List ℤ) (t : Turning) (phase : ℕ) (out : List ℤ)
     → phase ≡ t.phase → HasRun step at t (length out) 0 (at_phase t phase) out
 held_none step at t phase out e =
     subst (λ p. HasRun step at t (length out) 0 (at_phase t p) out) (sym e)
     (HasRun_none step at t (length out) out refl)
 
--- one more step: the phase is moved by the parts that the frequency is worth
+-- one more step: the phase advances by the increment of the frequency
 pub held_more : (step : Turning → List ℤ → Turning × ℤ) (at : ℕ → List ℤ) (t : Turning) (cps : ℤ)
     (n j parts phase phase' : ℕ) (out : List ℤ) (y y' : ℤ) →
     HasRun step at t n j (at_phase t phase) out → j < n → parts ≡ within_turn (increment t.rate t.pace cps)
@@ -30,12 +30,12 @@ held_more step at t cps n j parts phase phase' out y y' h below p q r e =
     HasRun_step step at t n j (at_phase t phase) (at_phase t phase') out y h below
     (ap (λ k. (at_phase t k, y)) moved ∙ ap (λ z. (turned (at_phase t phase) cps, z)) r ∙ e)
 
--- after the last step
+-- the state after the last step
 pub held_end : (step : Turning → List ℤ → Turning × ℤ) (at : ℕ → List ℤ) (t s : Turning) (n j phase : ℕ) (out : List ℤ)
     → HasRun step at t n j (at_phase t phase) out → n ≤ j → s ≡ at_phase t phase → (s, out) ≡ run step at t 0 n
 held_end step at t s n j phase out h e p = ap (λ u. (u, out)) p ∙ HasRun_end step at t n j (at_phase t phase) out h e
 
--- a block by its one operand is that by the list of them
+-- a block computed from its only operand equals the block computed from the list of operands
 pub by_one : {S : Type 0} (step : S → List ℤ → S × ℤ) (xs : List Operand) (x p : Operand) (points : List ℤ) (s : S)
     (n : ℕ) → length xs ≡ 1 → x ≡ get_or xs 0 p
     → run step (λ j. operand_at x j ∷ points) s 0 n ≡ run step (λ j. inputs_at xs j ++ points) s 0 n
@@ -46,14 +46,14 @@ two : (xs : List Operand) (x y p q : Operand) → length xs ≡ 2 → x ≡ get_
 two (a ∷ b ∷ []) x y p q n i j = cc
 two xs x y p q n i j = absurd (omega arith)
 
--- and so by its two
+-- a block computed from its two operands equals the block computed from the list of operands
 pub by_two : {S : Type 0} (step : S → List ℤ → S × ℤ) (xs : List Operand) (x y p q : Operand) (points : List ℤ) (s : S)
     (n : ℕ) → length xs ≡ 2 → x ≡ get_or xs 0 p → y ≡ get_or xs 1 q
     → run step (λ j. operand_at x j ∷ operand_at y j ∷ points) s 0 n ≡ run step (λ j. inputs_at xs j ++ points) s 0 n
 by_two step xs x y p q points s n long is next =
     ap (λ ys. run step (λ j. inputs_at ys j ++ points) s 0 n) (sym (two xs x y p q long is next))
 
--- the unit of a state that has run
+-- the unit of a state after its run
 pub wrapped : {S : Type 0} (kind : S → UnitState) (t : S) (k : UnitState) (out filled : List ℤ) (r : S × List ℤ)
     → k ≡ kind t → out ≡ filled → (t, filled) ≡ r → ◌≡◌ {A = UnitState × List ℤ} (k, out) (kind r.0, r.1)
 wrapped kind t k out filled r e f g =

@@ -1,4 +1,4 @@
--- What turns at a frequency a step answers a formula of its phase and its last inputs.
+-- A unit that turns at a frequency returns a formula of its phase and its last inputs.
 use Rattle.std.proofs.Common.{◌≡◌, ℤ, ℕ, List, [], ◌∷◌, ◌++◌, map, ap, sym, subst, ◌∙◌}
 use Rattle.cs_base.specs.declared.resource.Rate.{Rate}
 use Rattle.cs_signal.specs.{Pace.Pace, Steps.IsUnit, History.last_of}
@@ -14,7 +14,7 @@ use Rattle.cs_ugen.specs.Oscil as oscil
 use Rattle.cs_ugen.specs.Oscili as oscili
 use Rattle.cs_ugen.specs.Phasor as phasor
 
--- a value by the phase and the last inputs
+-- a value that depends on the phase and the last inputs
 by_phase : (value : ℕ → List ℤ → ℤ) (frequency : List ℤ → ℤ) (t : Turning) (rate : Rate) (pace : Pace) (start : ℤ)
     (before : List (List ℤ)) (x : List ℤ) → HasTurned t rate pace start (map frequency before) →
     value t.phase x ≡ value (phase_of rate pace start (map frequency (before_last (before ++ x ∷ []))))

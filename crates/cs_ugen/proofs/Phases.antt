@@ -1,4 +1,4 @@
--- Phases add up within a turn.
+-- Phases are added within a turn.
 use Rattle.std.proofs.Common.{◌≡◌, ℕ, ℤ, pos, negsuc, suc, ◌+◌, ◌*◌, ◌%◌, ◌+ℤ◌, ◌*ℤ◌, unsigned_abs, List, [], ◌∷◌, ◌++◌}
 use Rattle.std.proofs.Common.{map, refl, ap, sym, ◌∙◌, arith}
 use Rattle.std.proofs.Math.Nat.{mod-add-mod, add-mod-mod}
@@ -8,7 +8,7 @@ use Rattle.cs_signal.specs.Pace.{Pace}
 use Rattle.cs_ugen.specs.Phases.{turn, within_turn, increment, phase_of, Turning, HasTurned, begun, turned}
 use Rattle.cs_ugen.proofs.Inputs.{map-more}
 
--- whole turns more, so many that the sum isn't below 0
+-- complete turns are added until the sum isn't negative
 record Lifted (a : ℤ) : Type 0 where
   turns : ℕ
   sum : ℕ
@@ -40,7 +40,7 @@ total-more : (zs : List ℤ) (z : ℤ) → total (zs ++ z ∷ []) ≡ total zs +
 total-more [] z = omega (arith, ints)
 total-more (y ∷ ys) z = let e = total-more ys z in omega (arith, ints, e)
 
--- before the first step
+-- the state before the first step
 pub HasTurned-none : (rate : Rate) (pace : Pace) (start : ℤ) → HasTurned (begun rate pace start) rate pace start []
 unfolding phase_of
 HasTurned-none rate pace start =
@@ -59,7 +59,7 @@ phase-more rate pace start cs c =
     omega (arith, ints, sums) in
     within_turn-add ((start *ℤ pos 256) +ℤ so_far) (f c) ∙ ap within_turn last
 
--- one step more
+-- the state after one more step
 pub HasTurned-more : (t : Turning) (rate : Rate) (pace : Pace) (start : ℤ) (cs : List ℤ) (c : ℤ)
     → HasTurned t rate pace start cs → HasTurned (turned t c) rate pace start (cs ++ c ∷ [])
 HasTurned-more t rate pace start cs c h = record {

@@ -1,11 +1,11 @@
--- Quotients rounded down, part by part.
+-- Quotients that are rounded down, part by part.
 use Rattle.std.proofs.Common.{◌≡◌, ℕ, zero, suc, ◌+◌, ◌-◌, ◌*◌, ◌/◌, ◌%◌, ◌<◌, ℤ, pos, negsuc, ◌+ℤ◌, ◌*ℤ◌, ap, sym, ◌∙◌}
 use Rattle.std.proofs.Common.{arith}
 use Rattle.std.specs.Int.{int_div_euclid, int_rem_euclid}
 use Rattle.std.proofs.lemmas.Int.{ints}
 use Rattle.cs_base.specs.Numbers.{floor_div}
 
--- a number is its quotient by 65,536 and a part below that
+-- a number is 65,536 times its quotient plus a remainder
 record Split (z : ℤ) : Type 0 where
   part : ℕ
   small : part < 65536
@@ -20,7 +20,7 @@ split_rem : (z : ℤ) (r : ℕ) → r < 65536 → z ≡ (int_div_euclid z (pos 6
 split_rem (pos a) r s e = omega (arith, ints)
 split_rem (negsuc a) r s e = omega (arith, ints)
 
--- the quotient is the only number that leaves such a part
+-- only the quotient leaves a remainder below 65,536
 pub floor_div_is : (z q : ℤ) (r : ℕ) → r < 65536 → z ≡ (q *ℤ pos 65536) +ℤ pos r → floor_div z (pos 65536) ≡ q
 floor_div_is (pos a) q r s e = omega (arith, ints)
 floor_div_is (negsuc a) q r s e = omega (arith, ints)
@@ -53,7 +53,7 @@ whole h l f q r e =
     let b = times-swap h f in
     omega (arith, ints, e, a, b)
 
--- part of a difference: the part of its upper bits and that of its lower
+-- a part of a difference is the sum of the parts of its upper bits and of its lower bits
 pub by_parts : (d : ℤ) (f : ℕ) → floor_div (d *ℤ pos f) (pos 65536)
     ≡ (floor_div d (pos 65536) *ℤ pos f) +ℤ floor_div (int_rem_euclid d (pos 65536) *ℤ pos f) (pos 65536)
 by_parts d f =

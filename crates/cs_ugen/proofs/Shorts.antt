@@ -1,4 +1,4 @@
--- The curve of points, by its places, and points that fit into 32 bits.
+-- The curve of points, place by place, and points that fit into 32 bits.
 use Rattle.std.proofs.Common.{◌≡◌, ℕ, ◌+◌, ◌-◌, ◌%◌, ◌<◌, ◌≤◌, ◌⊎◌, inl, inr, ⊎_elim, ◌==◌, true, false, if◌then◌else◌}
 use Rattle.std.proofs.Common.{List, [], ◌∷◌, ◌++◌, length, take, ℤ, pos, negsuc, ◌-ℤ◌, ◌*ℤ◌, unsigned_abs, ◌^◌, ap, sym}
 use Rattle.std.proofs.Common.{◌∙◌, subst, arith}
@@ -12,7 +12,7 @@ use Rattle.cs_signal.specs.Operands.{argument}
 use Rattle.cs_ugen.specs.Points.{AreShort, IsShort, between_points, curve_len, is_len}
 use Rattle.cs_ugen.proofs.Curves.{is_len-bounds}
 
--- the guard point is the last point, or it stands behind them
+-- the guard point is the last point, or it is appended
 pub guard_last : (ps : List ℤ) → length ps % 2 ≡ 1 → curve_of ps ≡ ps
 guard_last ps odd =
     let n : ℕ = length ps - 1 in
@@ -31,7 +31,7 @@ guard_behind ps even =
 odd_or_even : (n : ℕ) → (n % 2 ≡ 1) ⊎ (n % 2 ≡ 0)
 odd_or_even n = ⊎_elim (λ h. inr (omega arith)) (λ h. inl (omega arith)) (cases_lt (n % 2) 1)
 
--- the points of a curve
+-- the points of a curve before the guard point are the table's points
 pub points_kept : (ps : List ℤ) → take (length ps) (curve_of ps) ≡ ps
 points_kept ps = ⊎_elim
     (λ odd. ap (take (length ps)) (guard_last ps odd) ∙ take_all (length ps) ps (omega arith))
@@ -45,7 +45,7 @@ points_fit ps =
     let long = length-append (take m ps) (argument ps (guard_place (length ps)) ∷ []) in
     omega (arith, first, long)
 
--- its length
+-- the length of a curve is the length of its table
 pub curve_long : (ps : List ℤ) → is_len (len_of (length ps)) ≡ true → curve_len (curve_of ps) ≡ len_of (length ps)
 curve_long ps power =
     let low = (is_len-bounds (len_of (length ps)) power).0 in
@@ -57,25 +57,25 @@ curve_long ps power =
 zero_short : IsShort (pos 0)
 zero_short = (omega (arith, ints), omega (arith, ints))
 
--- one place more of which the point is short
+-- the points are short up to one more place
 pub short_more : (ps : List ℤ) (place k : ℕ) (x : ℤ) → ((i : ℕ) → i < place → IsShort (argument ps i))
     → x ≡ argument ps place → IsShort x → k < place + 1 → IsShort (argument ps k)
 short_more ps place k x h is short below = ⊎_elim
     (λ p. h k p)
     (λ p. let e : place ≡ k = omega arith in subst IsShort (is ∙ ap (argument ps) e) short) (cases_lt k place)
 
--- all places that there are
+-- all points are short
 pub short_all : (ps : List ℤ) (place : ℕ) → ((i : ℕ) → i < place → IsShort (argument ps i)) → length ps ≤ place
     → AreShort ps
 short_all ps place h all k = ⊎_elim
     (λ p. h k p)
     (λ p. subst IsShort (sym (get_or-eq_default ps (pos 0) (omega arith))) zero_short) (cases_lt k place)
 
--- the rise from one short point to another has 32 bits
+-- the difference of two short points is below 2^32
 pub short_rise : (x y : ℤ) → IsShort x → IsShort y → unsigned_abs (y -ℤ x) < 2 ^ 32
 short_rise x y hx hy = omega (arith, ints, hx.0, hx.1, hy.0, hy.1)
 
--- a product of two short numbers, in 65,536ths, is in range
+-- the product of two short numbers in 65,536ths is in range
 in_range : (z : ℤ) → unsigned_abs z ≤ 70368744177664 → IsRaw z
 in_range z h = (omega (arith, ints, h), omega (arith, ints, h))
 
@@ -86,7 +86,7 @@ short_ratio x y hx hy =
     in_range (floor_div (x *ℤ y) (pos 65536))
     (floor_div_within (x *ℤ y) 70368744177664 65536 (omega arith) (omega (arith, small)))
 
--- between two short points all is short
+-- every value between two short points is short
 pub between_short : (ps : List ℤ) (place fraction : ℕ) → AreShort ps → fraction < 65536
     → IsShort (between_points ps place fraction)
 unfolding between_points

@@ -1,4 +1,4 @@
--- Each opcode by its own law.
+-- Each opcode with its own law.
 use Rattle.std.proofs.Common.{◌≡◌, ℕ, zero, suc, ◌+◌, ℤ, List, [], ◌∷◌, ◌++◌, refl, ap, sym, subst, ◌∙◌}
 use Rattle.cs_base.specs.declared.resource.Rate.{Rate}
 use Rattle.cs_words.specs.declared.catalogue.Opcode.{Opcode}
@@ -14,7 +14,7 @@ use Rattle.cs_ugen.specs.declared.unit.UnitState.TheVariants as unit
 abbrev HasLaw : OfOpcode → Type 0
 HasLaw e = IsUnit e.formula e.start e.step e.stands
 
--- the law of each opcode that keeps something; one that keeps nothing has it by form, and so has what is no unit
+-- the law of each opcode; an opcode without state, or one that isn't a unit, satisfies it by definition
 law_of : (o : Opcode) → HasLaw (of_opcode o)
 law_of op.Oscil = oscil_is_unit
 law_of op.Oscili = oscili_is_unit
@@ -32,7 +32,7 @@ law_of op.Samphold = formulas.samphold_law
 law_of op.Interp = formulas.interp_law
 law_of o = formulas.plain_law (λ x. ((of_opcode o).step tt x).1)
 
--- a unit that starts is that of its state before the first step
+-- a unit that starts is the unit of the opcode's initial state
 begins : (o : Opcode) (rate : Rate) (pace : Pace) (settled : List ℤ)
     → (of_opcode o).begin rate pace settled ≡ (of_opcode o).kind ((of_opcode o).start rate pace settled)
 begins op.Oscil rate pace settled = refl
@@ -44,7 +44,7 @@ state_found : (o : Opcode) → IsUnitOpcode o → (s : (of_opcode o).State)
 state_found op.Oscil is s = refl
 state_found o is s = cc
 
--- each unit has an opcode of a unit, and is the unit of its state
+-- each unit has the opcode of a unit, and is the unit of its state
 is_unit : (u : UnitState) → IsUnitOpcode (opcode_of u)
 is_unit (unit.Oscil s) = refl
 is_unit u = refl
@@ -53,12 +53,12 @@ whole : (u : UnitState) → u ≡ (of_opcode (of_unit u).opcode).kind (of_unit u
 whole (unit.Oscil s) = refl
 whole u = refl
 
--- what there is of a unit is by its opcode and its state
+-- a unit's definition is given by its opcode and its state
 by_state : (u : UnitState) → of_unit u ≡ with_state (of_unit u).opcode (of_unit u).state
 by_state (unit.Oscil s) = refl
 by_state u = refl
 
--- the unit of a state, and the steps that it has behind it
+-- the unit of a state has performed the steps of the state
 kept : (o : Opcode) (rate : Rate) (pace : Pace) (settled : List ℤ) (inputs : List (List ℤ)) (u : UnitState)
     (s : (of_opcode o).State) → IsUnitOpcode o → u ≡ (of_opcode o).kind s
     → (of_opcode o).stands s rate pace settled inputs → Stands u o rate pace settled inputs
@@ -75,7 +75,7 @@ state_starts o rate pace settled is =
     kept o rate pace settled [] (unit_start o rate pace settled) ((of_opcode o).start rate pace settled) is
     (begins o rate pace settled) ((law_of o).starts rate pace settled)
 
--- a step of a unit is that of its state
+-- a step of a unit is a step of its state
 stepped : (u : UnitState) (x : List ℤ) → unit_step u x ≡ (with_state (of_unit u).opcode (of_unit u).state).step x
 stepped u x = ap (λ v. v.step x) (by_state u)
 
@@ -87,7 +87,7 @@ next u x = ap (λ r. of_unit r.0) (stepped u x)
 pub opcode_stays : (u : UnitState) (x : List ℤ) → opcode_of (unit_step u x).0 ≡ opcode_of u
 opcode_stays u x = ap (λ v. v.opcode) (next u x)
 
--- the steps behind a unit are those behind its state
+-- the steps that a unit has performed are the steps of its state
 behind : (u : UnitState) (rate : Rate) (pace : Pace) (settled : List ℤ) (inputs : List (List ℤ))
     → StateStands u rate pace settled inputs
     → (of_opcode (opcode_of u)).stands (of_unit u).state rate pace settled inputs

@@ -1,4 +1,4 @@
--- The units by opcode: what each gives, what it keeps, and how a step goes. An opcode has a line in two tables.
+-- The units by opcode: formula, state and step of each. An opcode has a line in two tables.
 use Rattle.std.specs.Prelude.{◌≡◌, ℕ, Bool, true, false, List, length, ℤ, pos}
 use Rattle.cs_base.specs.declared.resource.Rate.{Rate}
 use Rattle.cs_words.specs.Catalogue.{row_of, moving_letters, takes_table}
@@ -20,10 +20,13 @@ use Rattle.cs_ugen.specs.declared.unit.UnitState.TheVariants as unit
 abbrev pub IsUnitOpcode : Opcode → Type 0
 IsUnitOpcode o = (row_of o).shape ≡ shape.Unit
 
--- What there is of an opcode: the states that a unit of it keeps, and the unit of a state; its formula, which gives its
--- result in the last of some steps from its rate, the piece's pace, its settled arguments and the inputs of all steps
--- so far; the state before the first step, and the unit of this state; one step, which gives the state afterwards and
--- its result; and which steps a state has behind it.
+-- The definition of an opcode.
+-- - Its states, and the unit of a state.
+-- - Its formula: the result in the last step, from the opcode's rate, the piece's pace, the i-rate
+--   arguments, and the inputs of all steps so far.
+-- - The state before the first step, and the unit of this state.
+-- - One step: the state afterwards, and the result.
+-- - The relation between a state and the steps that it has performed.
 pub record OfOpcode : Type 1 where
   pub State : Type 0
   pub kind : State → UnitState
@@ -33,7 +36,7 @@ pub record OfOpcode : Type 1 where
   pub step : State → List ℤ → State × ℤ
   pub stands : State → Rate → Pace → List ℤ → List (List ℤ) → Type 0
 
--- one that keeps something from step to step
+-- an opcode with a state from step to step
 abbrev pub keeping : {S : Type 0} → (S → UnitState) → (Rate → Pace → List ℤ → List (List ℤ) → ℤ)
     → (Rate → Pace → List ℤ → S)
     → (S → List ℤ → S × ℤ) → (S → Rate → Pace → List ℤ → List (List ℤ) → Type 0) → OfOpcode
@@ -47,11 +50,11 @@ keeping {S} unit_of given started stepped stood = record {
   stands = stood;
 }
 
--- one whose result is in the inputs of its step
+-- an opcode whose result depends only on the inputs of its step
 abbrev pub plain : (Unit {0} → UnitState) → (List ℤ → ℤ) → OfOpcode
 plain unit_of value = keeping unit_of (plain_of value) plain_start (plain_step value) PlainStands
 
--- an opcode that is no unit gives 0, and has no unit of its own
+-- the definition of each opcode; an opcode that isn't a unit has the result 0
 abbrev pub of_opcode : Opcode → OfOpcode
 of_opcode op.Oscil = keeping unit.Oscil Oscil.oscil_of Oscil.oscil_start Oscil.oscil_step Oscil.OscilStands
 of_opcode op.Oscili = keeping unit.Oscili Oscili.oscili_of Oscili.oscili_start Oscili.oscili_step Oscili.OsciliStands
@@ -80,7 +83,7 @@ of_opcode op.Interp = keeping unit.Interp signal.Interp.interp_of signal.Interp.
 of_opcode op.Downsamp = plain unit.Downsamp signal.Downsamp.downsamp_value
 of_opcode _ = plain unit.Downsamp (λ inputs. pos 0)
 
--- what an opcode gives in the last of some steps
+-- the result of an opcode in the last of these steps
 unfoldable pub gen : Opcode → Rate → Pace → List ℤ → List (List ℤ) → ℤ
 gen o rate pace settled inputs = (of_opcode o).formula rate pace settled inputs
 
@@ -88,14 +91,15 @@ gen o rate pace settled inputs = (of_opcode o).formula rate pace settled inputs
 abbrev pub unit_start : Opcode → Rate → Pace → List ℤ → UnitState
 unit_start o rate pace settled = (of_opcode o).begin rate pace settled
 
--- What there is of a unit: its opcode, and the state that it keeps; one step, which gives the unit afterwards and its
--- result; and which steps it has behind it.
+-- The definition of a unit: its opcode and its state; one step, which returns the unit afterwards and the
+-- result; and the relation between a unit and the steps that it has performed.
 pub record OfUnit : Type 1 where
   pub opcode : Opcode
   pub state : (of_opcode opcode).State
   pub step : List ℤ → UnitState × ℤ
   pub stands : Rate → Pace → List ℤ → List (List ℤ) → Type 0
 
+-- the unit of an opcode in a state
 abbrev pub with_state : (o : Opcode) → (of_opcode o).State → OfUnit
 with_state o s = record {
   opcode = o;
@@ -104,6 +108,7 @@ with_state o s = record {
   stands = (of_opcode o).stands s;
 }
 
+-- the opcode and the state of a unit
 abbrev pub of_unit : UnitState → OfUnit
 of_unit (unit.Oscil s) = with_state op.Oscil s
 of_unit (unit.Oscili s) = with_state op.Oscili s
@@ -122,32 +127,36 @@ of_unit (unit.Limit s) = with_state op.Limit s
 of_unit (unit.Interp s) = with_state op.Interp s
 of_unit (unit.Downsamp s) = with_state op.Downsamp s
 
+-- the opcode of a unit
 abbrev pub opcode_of : UnitState → Opcode
 opcode_of u = (of_unit u).opcode
 
+-- one step of a unit: the unit afterwards, and the result
 abbrev pub unit_step : UnitState → List ℤ → UnitState × ℤ
 unit_step u x = (of_unit u).step x
 
+-- a unit is in the state after these steps
 abbrev pub StateStands : UnitState → Rate → Pace → List ℤ → List (List ℤ) → Type 0
 StateStands u = (of_unit u).stands
 
--- a unit stands for a list of inputs, one entry a step, under an opcode, a rate, a pace and settled arguments
+-- a unit has performed steps with these inputs, one entry per step, under an opcode, a rate, a pace and
+-- i-rate arguments
 pub record Stands (u : UnitState) (o : Opcode) (rate : Rate) (pace : Pace) (settled : List ℤ)
     (inputs : List (List ℤ)) : Type
     0 where
   pub opcode : opcode_of u ≡ o
   pub state : StateStands u rate pace settled inputs
 
--- the opcodes of units that read a table: their inputs end with the table's points, the guard point last
+-- the opcodes of units that read a table; their inputs end with the table's points, the guard point last
 abbrev pub reads_table : Opcode → Bool
 reads_table o = takes_table o
 
--- the opcodes that take memory as they start
+-- the opcodes that allocate memory as they start
 abbrev pub takes_memory : Opcode → Bool
 takes_memory op.Delay = true
 takes_memory op.Linseg = true
 takes_memory _ = false
 
--- how many moving arguments a step of an opcode has
+-- the number of moving arguments of a step
 abbrev pub moving_count : Opcode → ℕ
 moving_count o = length (moving_letters (row_of o))

@@ -1,17 +1,17 @@
-// An angle, kept so that it turns by itself.
+// An angle that wraps by itself when it exceeds one turn.
 ghost use Rattle.std.specs.Prelude.{◌≡◌, ◌+◌, ◌*◌, ◌/◌, ◌%◌, ◌<◌, ◌≤◌, ◌^◌};
 ghost use Rattle.cs_ugen.specs.Phases.{turn};
 
 use std::marker::Model;
 
-/// The parts of a turn.
+/// The number of parts of a turn.
 pub(crate) const TURN: u32 = 16_777_216;
 
-// One part of a turn in an angle's word.
+// One part of a turn in an angle's 64-bit word.
 const PART: u64 = 1_099_511_627_776;
 
-/// An angle from 0 below a turn, in parts of 2^24 a turn. It lies in the upper bits of a word, the rest of which is 0:
-/// so a sum of two that passes a turn wraps by itself.
+/// An angle from 0 to below one turn, in 2^24ths of a turn. It is stored in the upper bits of a word whose
+/// other bits are 0, so that a sum beyond one turn wraps by itself.
 #[derive(Clone, Copy)]
 pub(crate) struct Angle {
     word: u64,
@@ -33,7 +33,7 @@ impl Model for Angle {
 }
 
 impl Angle {
-    /// The angle of so many parts.
+    /// The angle of `parts` parts, in 2^24ths of a turn.
     #[inline(always)]
     pub(crate) fn of(parts: u32) -> Angle
         requires { parts < turn }
@@ -44,7 +44,7 @@ impl Angle {
         }
     }
 
-    /// How many parts it has.
+    /// The angle in 2^24ths of a turn.
     #[inline(always)]
     pub(crate) fn parts(self) -> u32
         ensures value { result ≡ self }
@@ -53,7 +53,7 @@ impl Angle {
         (self.word / PART) as u32
     }
 
-    /// Its place in a curve of so many points a turn, rounded down.
+    /// The place of the angle in a curve of `len` points per turn, rounded down.
     #[inline(always)]
     pub(crate) fn place(self, len: usize) -> usize
         requires some { 1 ≤ len }
@@ -64,7 +64,7 @@ impl Angle {
         upper(self.times(len))
     }
 
-    /// How far it lies behind that place, in 65,536ths of the way to the next.
+    /// The distance of the angle from that place, in 65,536ths of the way to the next place.
     #[inline(always)]
     pub(crate) fn fraction(self, len: usize) -> u32
         requires { len ≤ 65536 }
@@ -74,7 +74,7 @@ impl Angle {
         lower(self.times(len))
     }
 
-    // The word times a number.
+    // The angle's word times a number.
     #[inline(always)]
     fn times(self, len: usize) -> u128
         ensures value { result ≡ self * len * 1099511627776 }
@@ -84,7 +84,7 @@ impl Angle {
     }
 }
 
-/// An angle that is turned by another.
+/// The sum of two angles, within one turn.
 #[inline(always)]
 pub(crate) fn moved(phase: Angle, by: Angle) -> Angle
     ensures value { result ≡ (phase + by) % turn }
@@ -95,7 +95,7 @@ pub(crate) fn moved(phase: Angle, by: Angle) -> Angle
     }
 }
 
-// How often a turn's word goes into a number.
+// The number of full turns in a product: its upper 64 bits.
 #[inline(always)]
 fn upper(n: u128) -> usize
     requires { n < 2 ^ 96 }
@@ -104,7 +104,7 @@ fn upper(n: u128) -> usize
     (n / 18_446_744_073_709_551_616) as usize
 }
 
-// What is left then, in 2^48ths.
+// The rest of a product below a full turn, in 2^48ths of 2^64.
 #[inline(always)]
 fn lower(n: u128) -> u32
     ensures { result ≡ n % 2 ^ 64 / 2 ^ 48 }

@@ -1,4 +1,4 @@
-// What is read: the points of a table, with the guard point behind the last of them.
+// Curves, from which units read: the points of a table, followed by the guard point.
 ghost use Rattle.std.specs.Prelude.{IfSome, true, ◌≡◌, ◌<◌, ◌^◌, ◌≤◌, ℤ, pos, ◌-ℤ◌, ◌*ℤ◌, unsigned_abs, List};
 ghost use Rattle.std.specs.Int.{int_rem_euclid};
 ghost use Rattle.cs_base.specs.Numbers.{IsRaw, floor_div};
@@ -8,32 +8,32 @@ ghost use Rattle.cs_signal.specs.Operands.{argument};
 use crate::frozen::ShortCurve;
 use cs_base::{Num, ONE};
 
-/// A table as a unit reads it: `len` points and behind them the guard point, which no call changes. What a curve
-/// stands on, such as cells that it reads, stays as it is too.
+/// A table as a unit reads it: `len` points, followed by the guard point. No call changes them. The data
+/// under a curve, such as cells that it reads, isn't changed either.
 pub trait Curve {
-    /// Whether `short` may find one. A constant leaves the loops on a short curve one caller, so that the compiler
-    /// builds them in there, where it sees that no result is written over the curve.
+    /// Whether `short` may return a curve. Because this is a constant, the loops on a short curve have only
+    /// one caller; so the compiler inlines them there and sees that no result overwrites the curve.
     const MAY_BE_SHORT: bool = false;
 
-    /// The points, the guard point last.
+    /// The points, with the guard point last.
     ghost points: { Self → List ℤ };
 
-    /// What it stands on is as it was.
+    /// The data under the curve are unchanged.
     ghost kept: { Self → Self → Type 0 };
 
-    /// How many points it has before the guard point: a power of two from 2 to 65,536.
+    /// The number of points before the guard point: a power of two from 2 to 65,536.
     fn len(&self) -> usize
         ensures value { result ≡ curve_len (points self.now) }
         ensures curve { IsCurve (points self.now) };
 
-    /// The point at a place from 0 to `len`, that at `len` being the guard point.
+    /// The point at a place from 0 to `len`. Place `len` is the guard point.
     fn at(&mut self, place: usize) -> Num
         requires { place ≤ curve_len (points self.old) }
         ensures value { result ≡ argument (points self.old) place }
         ensures same { points self.new ≡ points self.old }
         ensures kept { kept self.old self.new };
 
-    /// Whether all points are known to fit into 32 bits, so that no product with one is looked at.
+    /// Whether all points are known to fit into 32 bits, so that products with them need no check.
     #[inline(always)]
     fn is_short(&self) -> bool
         ensures { result ≡ true → AreShort (points self.now) }
@@ -41,7 +41,7 @@ pub trait Curve {
         false
     }
 
-    /// The same curve for a loop, where it lies in one row and `is_short` there; else None.
+    /// This curve for a loop, if its points are in one slice and `is_short` holds; None otherwise.
     #[inline(always)]
     fn short(&self) -> Option<ShortCurve<'_>>
         ensures { IfSome result (λ s. s.frozen.curve.now ≡ points self.now) }
@@ -54,7 +54,7 @@ pub trait Curve {
     ghost chain: { (x y z : Self) → kept x y → kept y z → kept x z };
 }
 
-/// How many points a curve has before its guard point: from 2 to 65,536.
+/// The number of points of a curve before its guard point: from 2 to 65,536.
 #[inline(always)]
 pub(crate) fn curve_len<C: Curve>(curve: &C) -> usize
     ensures value { result ≡ curve_len (C.points curve.now) }
@@ -64,7 +64,7 @@ pub(crate) fn curve_len<C: Curve>(curve: &C) -> usize
     curve.len()
 }
 
-/// The curve between the point at a place and the next, so many 65,536ths of the way.
+/// The curve between the point at a place and the next point, `fraction` 65,536ths of the way.
 #[inline(always)]
 pub(crate) fn between_points<C: Curve>(curve: &mut C, place: usize, fraction: u32) -> Num
     requires place { place < curve_len (C.points curve.old) }
@@ -97,7 +97,7 @@ fn read_between<C: Curve>(curve: &mut C, place: usize, fraction: u32) -> Num
     }
 }
 
-// Between two points that fit into 32 bits: the product is within 64.
+// Interpolates between two points that fit into 32 bits; the product fits into 64 bits.
 #[inline(always)]
 fn short_way(here: Num, next: Num, fraction: u32) -> Num
     requires fraction { fraction < 65536 }
@@ -123,7 +123,7 @@ fn part_of(here: i64, next: i64, fraction: u32) -> i64
     floored(scaled(next - here, fraction))
 }
 
-/// A 65,536th, rounded down: as a division but for the look at the sign.
+/// A number divided by 65,536, rounded down. Equal to a division, without its test of the sign.
 #[inline(always)]
 pub(crate) fn floored(x: i64) -> i64
     ensures { result ≡ floor_div x (pos 65536) }
@@ -155,7 +155,7 @@ fn on_the_way(here: Num, next: Num, fraction: u32) -> Num
     )
 }
 
-// The value here and so much more, which lies between here and the next.
+// The value `here` plus a part of the way to `next`. The sum is between the two.
 #[inline(always)]
 fn moved(here: Num, next: Num, fraction: u32, part: i64) -> Num
     requires fraction { fraction < 65536 }
@@ -167,8 +167,8 @@ fn moved(here: Num, next: Num, fraction: u32, part: i64) -> Num
     Num::exact(here.raw() + part)
 }
 
-// So many 65,536ths of a difference, rounded down, are those of its upper bits and those of its lower sixteen: in two
-// parts, so that each product is within 64 bits.
+// A part of a difference in 65,536ths, rounded down, is computed from its upper bits and its lower sixteen
+// separately, so that each product fits into 64 bits.
 #[inline(always)]
 fn upper(difference: i64, fraction: u32) -> i64
     requires fraction { fraction < 65536 }

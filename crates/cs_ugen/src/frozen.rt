@@ -1,4 +1,4 @@
-// A table that stays as it was made.
+// A table that isn't changed after it is made.
 ghost use Rattle.std.specs.Prelude.{◌≡◌, ◌≤◌, ◌%◌, IfOk, true, refl, length};
 ghost use Rattle.std.proofs.Common.{◌∙◌};
 ghost use Rattle.cs_gen.specs.{Points.len_of, Tables.curve_of};
@@ -11,9 +11,9 @@ use cs_signal::argument;
 use std::alloc::AllocError;
 use std::marker::Model;
 
-/// The curve of a table that stays as it was made: its points, with the guard point behind the last of them, which is
-/// the last of a size that is one more than a power of two, else the first; and whether all fit into 32 bits. Contracts
-/// see the points that the table keeps.
+/// The curve of a table that isn't changed after it is made: its points, followed by the guard point, and
+/// whether all of them fit into 32 bits. The guard point is the last point if the size is one more than a
+/// power of two, otherwise the first. Contracts see the points of the table.
 #[derive(Drop)]
 pub struct FrozenTable {
     curve: Vec<Num>,
@@ -36,7 +36,7 @@ impl Model for FrozenTable {
 }
 
 impl FrozenTable {
-    /// The table of these points. It looks at each of them, and takes memory for the guard point.
+    /// The table of these points. It reads each of them, and allocates memory for the guard point.
     pub fn new(points: Points) -> Result<FrozenTable, AllocError>
         ensures { IfOk result (λ t. t ≡ points) }
     {
@@ -47,7 +47,7 @@ impl FrozenTable {
     }
 }
 
-// The points with the guard point behind them, where it isn't the last.
+// The points followed by the guard point, unless it is already the last point.
 fn with_guard(points: Vec<Num>) -> Result<Vec<Num>, AllocError>
     ensures { IfOk result (λ curve. curve.items ≡ curve_of points.items) }
 {
@@ -92,7 +92,7 @@ pub struct Frozen<'p> {
 }
 
 impl<'p> Frozen<'p> {
-    /// The curve of a table. It takes no time that grows with it.
+    /// The curve of a table. It takes the same time for every size.
     pub fn new(table: &'p FrozenTable) -> Frozen<'p>
         requires { is_len (len_of (length table.now)) ≡ true }
         ensures { result.points.now ≡ table.now }

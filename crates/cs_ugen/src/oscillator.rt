@@ -1,4 +1,4 @@
-// `oscil` and `oscili`: a table read as a wave.
+// `oscil` and `oscili`: a table read as a waveform.
 ghost use Rattle.std.specs.Prelude.{◌≡◌, ◌<◌, ◌∷◌, ◌^◌, ◌≤◌, length, ◌*ℤ◌, unsigned_abs};
 ghost use Rattle.cs_base.specs.{Heads.header_of_head, Numbers.product_of};
 ghost use Rattle.cs_ugen.specs.{Oscil.oscil_start, Oscil.wave_step, Phases.turn, Points.IsShort};
@@ -14,7 +14,7 @@ use cs_base::{Head, Num, Rate};
 use cs_signal::{Operand, argument};
 use std::marker::Model;
 
-/// An `oscil` or `oscili` of a note.
+/// The state of an `oscil` or `oscili`.
 #[derive(Drop)]
 pub(crate) struct Oscillator {
     phase: Phase,
@@ -29,8 +29,8 @@ impl Model for Oscillator {
 }
 
 impl Oscillator {
-    /// One that has no step behind it. Settled: the table's number, which the caller finds, and the starting phase in
-    /// turns, or no more.
+    /// The initial state, from the i-rate arguments: the table's number, which the caller looks up, and
+    /// optionally the starting phase in turns.
     pub(crate) fn start(rate: Rate, head: &Head, init: &[Num]) -> Oscillator
         ensures { result ≡ oscil_start rate (pace_of (header_of_head head.now)) init.now }
     {
@@ -39,7 +39,7 @@ impl Oscillator {
         }
     }
 
-    /// One step at this amplitude and frequency.
+    /// Performs one step at this amplitude and frequency.
     #[inline(always)]
     pub(crate) fn step_on<R: Reading, C: Curve>(&mut self, amp: Num, cps: Num, curve: &mut C) -> Num
         ensures value { (self.new, result) ≡ wave_step R.on_turn self.old (amp ∷ cps ∷ C.points curve.old) }
@@ -50,7 +50,7 @@ impl Oscillator {
         wave::<R, C>(amp, curve, phase)
     }
 
-    /// A step for each frame of `out`, by amplitude and frequency.
+    /// Performs one step for each frame of `out`.
     #[inline(always)]
     pub(crate) fn block_on<R: Reading, C: Curve>(
         &mut self,
@@ -68,7 +68,8 @@ impl Oscillator {
     {
         match (amp, cps) {
             (Operand::Held(value), Operand::Held(cps)) => {
-                // Both arms are the same text: in the first the compiler knows that the amplitude fits into 32 bits.
+                // Both arms have the same text. In the first, the compiler knows that the amplitude fits into
+                // 32 bits.
                 if is_short(*value) {
                     held::<R, C>(self, amp, *cps, curve, out);
                 } else {
@@ -81,7 +82,7 @@ impl Oscillator {
     }
 }
 
-// The frequency is held.
+// A block with a constant frequency.
 #[inline(always)]
 fn held<R: Reading, C: Curve>(
     unit: &mut Oscillator,
@@ -106,8 +107,8 @@ fn held<R: Reading, C: Curve>(
     unit.phase.set(phase);
 }
 
-// The frequency changes from frame to frame. It stands alone: its many constants would take the registers of the other
-// loops.
+// A block whose frequency changes from frame to frame. Kept out of line: its many constants would take
+// registers from the other loops.
 #[inline(never)]
 fn along<R: Reading, C: Curve>(
     unit: &mut Oscillator,
@@ -150,7 +151,7 @@ fn wave<R: Reading, C: Curve>(amp: Num, curve: &mut C, phase: Angle) -> Num
     }
 }
 
-// The product of two numbers that fit into 32 bits: it is within 64, and in range.
+// The product of two numbers that fit into 32 bits. It fits into 64 bits, and is in range.
 #[inline(always)]
 fn short_product(x: Num, y: Num) -> Num
     requires x { IsShort x }

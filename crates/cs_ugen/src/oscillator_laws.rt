@@ -1,4 +1,5 @@
-// What holds of the definitions for all inputs: calls that do nothing, whose contracts are the laws.
+// Facts about the definitions that hold for all inputs. These functions do nothing; their contracts state the
+// facts.
 ghost use Rattle.std.specs.Prelude.{◌≡◌, true, None, ℤ, pos, negsuc, neg_ℤ, List, [], ◌∷◌, length};
 ghost use Rattle.cs_base.specs.declared.resource.Rate.TheVariants.{Audio};
 ghost use Rattle.cs_gen.specs.{Faults.table_fault, Points.len_of, Tables.IsMade, Tables.curve_of};
@@ -13,9 +14,9 @@ pub fn made_tables_are_curves()
         → IsMade size gen args points → IsCurve (curve_of points) }
 {}
 
-/// Steps of docs/LANGUAGE.md, computed at 8 frames a second and rate a, over the points 5, 6, 7, 8 and the guard point
-/// 5: a ramp forward and one that turns backward, a wave between its points and one that holds them, the guard point,
-/// and indexes below, above and between.
+/// Worked examples of docs/LANGUAGE.md, at 8 frames a second and a-rate, over the points 5, 6, 7, 8 and the
+/// guard point 5. They are a ramp forward, a ramp backward, a waveform with interpolated points and one with
+/// held points, the guard point, and indexes below, above and between the points.
 pub fn steps_worked_by_hand()
     ensures ramp { let x : List ℤ = pos 65536 ∷ [] in
         phasor_of Audio (record { sr = 8; ksmps = 4 }) [] (x ∷ x ∷ x ∷ x ∷ []) ≡ pos 24576 }

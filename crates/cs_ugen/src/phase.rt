@@ -1,4 +1,4 @@
-// What turns: a phase of 2^24 parts, moved on at each step by a frequency.
+// The phase of a unit, in 2^24ths of a turn. Each step advances it by the frequency.
 ghost use Rattle.std.specs.Prelude.{◌≡◌, ◌+◌, ◌*◌, ◌/◌, ◌%◌, ◌<◌, ◌≤◌, ◌^◌, pos, ◌*ℤ◌, unsigned_abs};
 ghost use Rattle.std.specs.Int.{int_rem_euclid};
 ghost use Rattle.cs_base.specs.{Heads.header_of_head, Numbers.IsRaw, Numbers.floor_div};
@@ -9,7 +9,7 @@ use crate::angle::{Angle, TURN, moved};
 use cs_base::{Divisor, Head, Num, Rate};
 use std::marker::Model;
 
-/// The phase of a unit's next step. A frequency that stays is turned into parts once.
+/// The phase of a unit's next step. A constant frequency is converted to a phase increment once.
 #[derive(Drop)]
 pub(crate) struct Phase {
     rate: Rate,
@@ -35,7 +35,7 @@ impl Model for Phase {
 }
 
 impl Phase {
-    /// A phase that starts at `turns`.
+    /// The phase that starts at `turns` turns.
     pub(crate) fn start(rate: Rate, head: &Head, turns: Num) -> Phase
         ensures { result ≡ begun rate (pace_of (header_of_head head.now)) turns }
     {
@@ -52,7 +52,8 @@ impl Phase {
         }
     }
 
-    /// The phase of this step, from 0 below 2^24; the next step's is further by the frequency.
+    /// Returns the phase of this step, from 0 to below 2^24, and advances the phase by the frequency for the
+    /// next step.
     #[inline(always)]
     pub(crate) fn turn(&mut self, cps: Num) -> Angle
         ensures phase { result ≡ self.old.phase }
@@ -65,7 +66,7 @@ impl Phase {
         phase
     }
 
-    /// How many parts of a turn a step at this frequency moves the phase.
+    /// The phase increment of a step at this frequency, in parts of a turn. Remembers it for the next call.
     #[inline(always)]
     pub(crate) fn hold(&mut self, cps: Num) -> Angle
         ensures value { result ≡ within_turn (increment self.old.rate self.old.pace cps) }
@@ -79,7 +80,7 @@ impl Phase {
         self.parts
     }
 
-    /// The same, where the frequency mostly is another one at each step.
+    /// The phase increment of a step at this frequency, for frequencies that mostly differ from step to step.
     #[inline(always)]
     pub(crate) fn parts_at(&self, cps: Num) -> Angle
         ensures value { result ≡ within_turn (increment self.now.rate self.now.pace cps) }
@@ -88,7 +89,7 @@ impl Phase {
         parts_of(self.rate, self.sr, self.ksmps, cps, self.divisor)
     }
 
-    /// The same phase, for a loop.
+    /// Returns a copy of the phase, for a loop.
     #[inline(always)]
     pub(crate) fn copied(&self) -> Phase
         ensures { result ≡ self.now }
@@ -113,7 +114,7 @@ impl Phase {
         self.phase
     }
 
-    /// Goes on from this phase.
+    /// Sets the phase of the next step.
     #[inline(always)]
     pub(crate) fn set(&mut self, phase: Angle)
         requires { phase < turn }
@@ -123,7 +124,7 @@ impl Phase {
     }
 }
 
-// How far a frequency turns in a step.
+// The phase increment per step at a given frequency.
 #[inline(always)]
 #[tactic(auto, unfolding(crate::specs::Phases::increment))]
 fn parts_of(rate: Rate, sr: u32, ksmps: u32, cps: Num, divisor: Divisor) -> Angle
@@ -139,7 +140,7 @@ fn parts_of(rate: Rate, sr: u32, ksmps: u32, cps: Num, divisor: Divisor) -> Angl
     }
 }
 
-// 256 times a frequency, which is within 56 bits.
+// 256 times a frequency that fits into 56 bits.
 #[inline(always)]
 fn scaled(cps: Num) -> i64
     ensures value { result ≡ cps *ℤ pos 256 }
@@ -158,7 +159,7 @@ fn times(cps: Num, factor: u32) -> i128
     i128::from(cps.raw()) * i128::from(factor)
 }
 
-// The exact quotient, rounded down; where the number fits into 62 bits, without a division.
+// The exact quotient, rounded down. If the number fits into 62 bits, no division is needed.
 #[inline(always)]
 fn floored(n: i128, d: u32, divisor: Divisor) -> i128
     requires some { 1 ≤ d }
@@ -173,7 +174,7 @@ fn floored(n: i128, d: u32, divisor: Divisor) -> i128
     }
 }
 
-// The place of `parts` within one turn.
+// `parts` reduced to within one turn.
 #[inline(always)]
 #[tactic(auto, unfolding(crate::specs::Phases::within_turn))]
 fn within_turn(parts: i128) -> Angle

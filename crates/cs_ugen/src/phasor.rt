@@ -1,4 +1,4 @@
-// `phasor`: a ramp from 0 to 1, once a turn.
+// `phasor`: a ramp from 0 to 1, once per turn.
 ghost use Rattle.std.specs.Prelude.{◌≡◌, ◌<◌, ◌∷◌, [], length};
 ghost use Rattle.cs_ugen.specs.{Phases.turn, Phasor.phasor_start, Phasor.phasor_step, Phasor.ramp};
 ghost use Rattle.cs_base.specs.Heads.{header_of_head};
@@ -10,7 +10,7 @@ use cs_base::{Head, Num, Rate};
 use cs_signal::{Generator, Operand, Stepper, argument};
 use std::marker::Model;
 
-/// A `phasor` of a note.
+/// The state of a `phasor`.
 #[derive(Drop)]
 pub struct Phasor {
     phase: Phase,
@@ -25,7 +25,7 @@ impl Model for Phasor {
 }
 
 impl Phasor {
-    /// One that has no step behind it. Settled: the starting phase in turns, or nothing.
+    /// The initial state. `init` holds the starting phase in turns, or is empty.
     pub fn start(rate: Rate, head: &Head, init: &[Num]) -> Phasor
         ensures { result ≡ phasor_start rate (pace_of (header_of_head head.now)) init.now }
     {
@@ -34,7 +34,7 @@ impl Phasor {
         }
     }
 
-    // A step for each frame of `out`.
+    // Performs one step for each frame of `out`.
     fn block(&mut self, cps: &Operand, out: &mut [Num])
         requires { Lasts (length out.old) cps.now }
         ensures { (self.new, out.new) ≡ run phasor_step (λ j. operand_at cps.now j ∷ []) self.old 0 (length out.old) }

@@ -1,4 +1,4 @@
-// How a curve is read: each point held until the next, or on straight lines between its points.
+// The two ways of reading a curve: each point held until the next, or straight lines between its points.
 ghost use Rattle.std.specs.Prelude.{◌≡◌, ◌<◌, ◌≤◌, ◌-◌, ◌*◌, ◌/◌, ◌%◌, ℕ, ℤ, List};
 ghost use Rattle.cs_gen.specs.Places.{from_zero_to};
 ghost use Rattle.cs_ugen.specs.{Oscil.point_at, Oscili.line_at, Phases.turn, Table.point_of, Tablei.line_of};
@@ -9,7 +9,7 @@ use crate::curve::{Curve, between_points, curve_len};
 use cs_base::{Num, ONE};
 use cs_gen::place_of_index;
 
-// The parts of a place that an index counts.
+// The number of parts into which an index divides a place.
 const PARTS: u32 = ONE as u32;
 
 /// A way to read a curve.
@@ -35,7 +35,7 @@ pub(crate) trait Reading {
         ensures kept { C.kept curve.old curve.new };
 }
 
-/// Each point is held until the next.
+/// Holds each point until the next.
 pub(crate) struct Truncating;
 
 impl Reading for Truncating {
@@ -56,7 +56,7 @@ impl Reading for Truncating {
     }
 }
 
-/// Straight lines run from point to point.
+/// Interpolates along straight lines from point to point.
 pub(crate) struct Interpolating;
 
 impl Reading for Interpolating {
@@ -78,7 +78,7 @@ impl Reading for Interpolating {
     }
 }
 
-// An index brought into 0 .. len * 65536 - 1, in parts of a place.
+// An index clamped to 0 .. len * 65536 - 1, in parts of a place.
 #[inline(always)]
 fn index_of(ndx: Num, len: usize) -> u32
     requires some { 1 ≤ len }

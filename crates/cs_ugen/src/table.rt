@@ -9,7 +9,7 @@ use cs_base::Num;
 use cs_signal::Operand;
 use std::marker::Model;
 
-/// A `table` or `tablei` of a note, which keeps nothing from step to step.
+/// The state of a `table` or `tablei`, which is empty.
 #[derive(Drop)]
 pub(crate) struct TableReader;
 
@@ -20,14 +20,14 @@ impl Model for TableReader {
 }
 
 impl TableReader {
-    /// One that has no step behind it.
+    /// The initial state.
     pub(crate) fn start() -> TableReader
         ensures { result ≡ tt }
     {
         TableReader
     }
 
-    /// One step at this index.
+    /// Performs one step at this index.
     #[inline(always)]
     pub(crate) fn step_on<R: Reading, C: Curve>(&mut self, ndx: Num, curve: &mut C) -> Num
         ensures value { (self.new, result) ≡ index_step R.on_index self.old (ndx ∷ C.points curve.old) }
@@ -37,7 +37,7 @@ impl TableReader {
         R::indexed(curve, ndx)
     }
 
-    /// A step for each frame of `out`, by the index.
+    /// Performs one step for each frame of `out`.
     #[inline(always)]
     pub(crate) fn block_on<R: Reading, C: Curve>(
         &mut self,

@@ -1,4 +1,4 @@
-// A unit of any opcode: its start, a step of it, and a whole vector of steps in one call.
+// A unit of any opcode: its start, one step, and a vector of steps in one call.
 ghost use Rattle.std.specs.Prelude.{◌≡◌, ◌++◌, IfOk, OnErr, false, length, true};
 ghost use Rattle.std.specs.List.{All};
 ghost use Rattle.cs_base.specs.Heads.{header_of_head};
@@ -42,7 +42,7 @@ enum UnitState {
     Downsamp(cs_signal::Downsamp),
 }
 
-// What is called of a unit that reads no table, whatever its kind.
+// Calls a method of a unit that reads no table, whatever its kind.
 macro_rules! generator {
     ($kind:expr, $unit:ident => $call:expr) => {
         match $kind {
@@ -72,7 +72,8 @@ impl Model for Unit {
 }
 
 impl Unit {
-    /// A unit that has no step behind it. It takes all its memory now: only `delay` and `linseg` take any.
+    /// A unit that has performed no step. It allocates all its memory now; only `delay` and `linseg` need
+    /// any.
     pub fn start(
         alloc: Global,
         opcode: Opcode,
@@ -89,16 +90,24 @@ impl Unit {
         })
     }
 
-    /// One step of a unit that reads no table, on its moving arguments in the order of the text; one that is missing
-    /// is 0. It takes no memory.
+    /// Performs one step of a unit that reads no table. The inputs are its moving arguments in the order of
+    /// the text; a missing one is 0. It allocates no memory.
+    #[inline(always)]
     pub fn step(&mut self, inputs: &[Num]) -> Num
         requires { reads_table (opcode_of self.old) ≡ false }
         ensures { (self.new, result) ≡ unit_step self.old inputs.now }
     {
-        generator!(&mut self.kind, unit => unit.tick(inputs))
+        match &mut self.kind {
+            UnitState::Integ(unit) => unit.tick(inputs),
+            UnitState::Diff(unit) => unit.tick(inputs),
+            UnitState::Samphold(unit) => unit.tick(inputs),
+            UnitState::Limit(unit) => unit.tick(inputs),
+            kind => step_apart(kind, inputs),
+        }
     }
 
-    /// One step of a unit that reads a table, on its moving arguments in the order of the text. It takes no memory.
+    /// Performs one step of a unit that reads a table. The inputs are its moving arguments in the order of
+    /// the text. It allocates no memory.
     pub fn step_on<C: Curve>(&mut self, inputs: &[Num], curve: &mut C) -> Num
         requires reads { reads_table (opcode_of self.old) ≡ true }
         requires count { length inputs.now ≡ moving_count (opcode_of self.old) }
@@ -117,8 +126,8 @@ impl Unit {
         }
     }
 
-    /// A step for each frame of `out`, of a unit that reads no table, on its moving arguments in the order of the text.
-    /// It takes no memory.
+    /// Performs one step for each frame of `out`, for a unit that reads no table. The inputs are its moving
+    /// arguments in the order of the text. It allocates no memory.
     pub fn block(&mut self, inputs: &[Operand], out: &mut [Num])
         requires reads_none { reads_table (opcode_of self.old) ≡ false }
         requires count { length inputs.now ≡ moving_count (opcode_of self.old) }
@@ -128,7 +137,7 @@ impl Unit {
         self.rendered(inputs, out);
     }
 
-    // The same, by the steps of its state.
+    // Performs the steps of `block` on the unit's state.
     #[inline(always)]
     fn rendered(&mut self, inputs: &[Operand], out: &mut [Num])
         requires reads_none { reads_table (opcode_of self.old) ≡ false }
@@ -139,8 +148,8 @@ impl Unit {
         generator!(&mut self.kind, unit => unit.render(inputs, out))
     }
 
-    /// A step for each frame of `out`, of a unit that reads a table, on its moving arguments in the order of the text.
-    /// It takes no memory.
+    /// Performs one step for each frame of `out`, for a unit that reads a table. The inputs are its moving
+    /// arguments in the order of the text. It allocates no memory.
     pub fn block_on<C: Curve>(&mut self, inputs: &[Operand], curve: &mut C, out: &mut [Num])
         requires reads { reads_table (opcode_of self.old) ≡ true }
         requires count { length inputs.now ≡ moving_count (opcode_of self.old) }
@@ -153,14 +162,14 @@ impl Unit {
         if C::MAY_BE_SHORT
             && let Some(mut short) = curve.short()
         {
-            // A copy, so that the compiler knows that no result is written over it.
+            // A copy, so that the compiler knows that no result overwrites it.
             self.rendered_on(inputs, &mut short, out);
         } else {
             self.rendered_on(inputs, curve, out);
         }
     }
 
-    // The same, by the steps of its state.
+    // Performs the steps of `block_on` on the unit's state.
     fn rendered_on<C: Curve>(&mut self, inputs: &[Operand], curve: &mut C, out: &mut [Num])
         requires reads { reads_table (opcode_of self.old) ≡ true }
         requires count { length inputs.now ≡ moving_count (opcode_of self.old) }
@@ -184,6 +193,15 @@ impl Unit {
             _ => unreachable!(),
         }
     }
+}
+
+// `Unit::step` of the other kinds, as a separate function: the short steps then save no registers for the long ones.
+#[inline(never)]
+fn step_apart(kind: &mut UnitState, inputs: &[Num]) -> Num
+    requires { reads_table (opcode_of kind.old) ≡ false }
+    ensures { (kind.new, result) ≡ unit_step kind.old inputs.now }
+{
+    generator!(kind, unit => unit.tick(inputs))
 }
 
 fn kind_of(

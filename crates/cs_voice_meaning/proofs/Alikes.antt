@@ -1,4 +1,4 @@
--- Code does alike in worlds that follow one another.
+-- A code has the same effect in two worlds of which one follows the other.
 use Rattle.std.proofs.Common.{◌≡◌, ℕ, ℤ, ◌+◌, ◌&&◌, not, Bool, true, false, List, ◌∷◌, map, nat_le, if◌then◌else◌, refl}
 use Rattle.std.proofs.Common.{[], ◌∙◌, ap, subst, arith}
 use Rattle.cs_base.specs.{Rates.res_rate, declared.resource.Rate.Rate, declared.resource.Res.Res}
@@ -13,8 +13,8 @@ use Rattle.cs_voice_meaning.specs.Follows.{Kinds, AreNamed, ActNamed, OpsNamed, 
 use Rattle.std.proofs.lemmas.Grind.{common_steps}
 use Rattle.cs_ir.specs.declared.op.Act.TheVariants as act
 
--- A world follows another at the resources that are named: whatever is done in states that are related gives the same,
--- and leaves them related.
+-- A world follows another for the named resources: every action in related states has the same result, and
+-- leaves the states related.
 pub record Follows {V W : Type 0} (stock : Stock) (kinds : Kinds) (N : Res → Type 0) (o : World V) (u : World W)
     (R : V → W → Type 0) : Type 0 where
   pub ksmps : o.ksmps ≡ u.ksmps
@@ -49,7 +49,7 @@ module _ {V W : Type 0} (stock : Stock) (kinds : Kinds) (N : Res → Type 0) (o 
   either_alike false false p m q n e here there = there
   either_alike _ _ p m q n e here there = absurd (cc)
 
-  -- the world alone changes
+  -- only the world changes
   moved : (m : Machine V) (n : Machine W) (x : V) (y : W) → R x y → Alike R m n
       → Alike R (record m { world = x }) (record n { world = y })
   moved m n x y r a = record { regs = a.regs; next = a.next; world = r }

@@ -1,4 +1,4 @@
--- A code that gives to a channel has a register of sounds, so all channels are there for it.
+-- A code that outputs to a channel has an a-rate register, so all channels are available to it.
 use Rattle.std.proofs.Common.{◌≡◌, ℕ, ◌+◌, ◌<◌, ◌==◌, Bool, true, false, not, List, [], ◌∷◌, nat_lt, if◌then◌else◌}
 use Rattle.std.proofs.Common.{refl, sym, subst, arith, eqb-true}
 use Rattle.std.specs.List.{list_all}
@@ -27,12 +27,12 @@ all_of n sounds some = at (sounds == 0) refl
     at true e = let none : sounds ≡ 0 = eqb-true sounds 0 e in absurd (omega (arith, some, none))
     at false e = refl
 
--- where there is a register of sounds
+-- if there is an a-rate register, all channels are available
 pub all_channels : (counts : Counts) (q : Reg) (n : ℕ) → has_register counts q ≡ true → is_audio (rate_at q) ≡ true
     → channels_for counts n ≡ n
 all_channels counts q n there sound = all_of n _ (some_sounds counts q.kind q.offset there sound)
 
--- where an act takes what it gives to the channel that it numbers
+-- an act with valid operands finds the channel that it names
 pub channel_there : (counts : Counts) (n : ℕ) (a : Act) (r : Rate) (from : List Reg) → takes_from a r from ≡ true
     → list_all (has_register counts) from ≡ true → has_channel n a ≡ true → has_channel (channels_for counts n) a ≡ true
 channel_there counts n (act.Out c) r (x ∷ []) takes there has =
@@ -41,7 +41,7 @@ channel_there counts n (act.Out c) r (x ∷ []) takes there has =
 channel_there counts n (act.Out c) r _ takes there has = absurd (cc)
 channel_there counts n _ r from takes there has = refl
 
--- where it takes the number of a channel and what it gives to it
+-- an op that outputs to a numbered channel has an a-rate register
 pub numbered_there : (counts : Counts) (n : ℕ) (r : Rate) (from : List Reg) → takes_from act.OutAt r from ≡ true
     → list_all (has_register counts) from ≡ true → channels_for counts n ≡ n
 numbered_there counts n r (x ∷ y ∷ []) takes there =

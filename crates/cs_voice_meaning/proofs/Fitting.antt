@@ -1,4 +1,4 @@
--- A voice stays in the room that its codes' counts give it.
+-- A voice stays within the numbers that its codes count.
 use Rattle.std.proofs.Common.{◌≡◌, ℕ, ℤ, pos, ◌+◌, ◌-◌, ◌&&◌, ◌||◌, ◌==◌, Bool, true, false, not, List, ◌∷◌, map, []}
 use Rattle.std.proofs.Common.{length, nat_lt, nat_le, slice_index_or, Option, Some, None, if◌then◌else◌, refl, sym, ◌∙◌}
 use Rattle.std.proofs.Common.{ap, subst, arith, eqb-true}
@@ -66,7 +66,7 @@ module _ (areas : List Area) (piece : Piece) (counts : Counts) (channels : ℕ) 
   abbrev Sound : Wave → Type 0
   Sound w = held piece.head.ksmps rate.Audio w ≡ w
 
-  -- the world as a machine that fits has it
+  -- the world of a machine that fits
   abbrev Room : VoiceState → Type 0
   Room x = ((u : ℕ) → nat_lt u counts.units ≡ false → x.units u ≡ None)
       × ((c : ℕ) → nat_lt c channels ≡ false → x.outs c ≡ silence) × ((c : ℕ) → Sound (x.outs c))
@@ -102,7 +102,7 @@ module _ (areas : List Area) (piece : Piece) (counts : Counts) (channels : ℕ) 
       → Fits (write piece.head.ksmps into w m)
   write_fits into w m there f = grind (arith, common_steps, put_held, put_other)
 
-  -- ---- a unit is put where there is one
+  -- ---- a unit is stored under an existing number
 
   put_past : (b : Bool) (p : Playing) (o : Option Playing) (u n : ℕ) → (n == u) ≡ b → nat_lt u counts.units ≡ true
       → nat_lt n counts.units ≡ false → o ≡ None → (if b then Some p else o) ≡ None
@@ -142,7 +142,7 @@ module _ (areas : List Area) (piece : Piece) (counts : Counts) (channels : ℕ) 
       → Room x → Room (starts model opcode r u is x)
   starts_room opcode r u is x there k = grind (arith, common_steps, either_room, nat_le, not, put_room, slice_index_or)
 
-  -- ---- what goes out
+  -- ---- output
 
   out_past : (b : Bool) (w v : Wave) (n c : ℕ) → (n == c) ≡ b → nat_lt c channels ≡ true → nat_lt n channels ≡ false
       → v ≡ silence → (if b then w else v) ≡ silence
@@ -170,7 +170,7 @@ module _ (areas : List Area) (piece : Piece) (counts : Counts) (channels : ℕ) 
   reg_sound : (m : Machine VoiceState) (x : Reg) → Fits m → is_audio (rate_at x) ≡ true → Sound (m.regs x)
   reg_sound m x f h = subst (λ r. held piece.head.ksmps r (m.regs x) ≡ m.regs x) (audio_is (rate_at x) h) (f.keeps x)
 
-  -- what a valid op sends out is a sound
+  -- the output of a valid op is an a-rate signal
   out_sound : (m : Machine VoiceState) (c : ℕ) (r : Rate) (from : List Reg) → takes_from (act.Out c) r from ≡ true
       → Fits m → Sound (operand 0 (map m.regs from))
   out_sound m c r (x ∷ []) h f = reg_sound m x f h
@@ -251,7 +251,7 @@ module _ (areas : List Area) (piece : Piece) (counts : Counts) (channels : ℕ) 
       let into = and_parts own reads middle.0 in
       either_fits _ _ _ (acts_fit _ _ _ _ _ _ (written_there _ _ into.0) middle.1 outer.1 (into.1, ch, is) f) f
 
-  -- a machine that fits goes on so
+  -- a machine that fits still fits after more ops
   pub run_fits : (end place : ℕ) (ops : List Op) (m : Machine VoiceState) → fine_from counts end place ops ≡ true
       → have_channels piece.head.nchnls ops ≡ true → channels ≡ channels_for counts piece.head.nchnls → Fits m
       → Fits (run (voice_world areas piece) place ops m)
@@ -267,7 +267,7 @@ silent_held ksmps rate.Init = refl
 silent_held ksmps rate.Control = refl
 silent_held ksmps rate.Audio = grind (arith, common_steps, nat_lt)
 
--- a voice begins so, and stays so
+-- a voice fits as it begins
 pub begins_fitting : (s : Sheet) (counts : Counts) (cells : ℕ → ℤ) → IsPlayable s
     → fine_from counts (length s.init) 0 s.init ≡ true → VoiceFits counts (voice_of s (initialised s cells))
 begins_fitting s counts cells playable fine =

@@ -32,7 +32,7 @@ low a n h = grind (arith, nat_tests)
 high : (a n : ℕ) → nat_lt a n ≡ false → n ≤ a
 high a n h = grind (arith, nat_tests)
 
--- what a voice sees of cells that agree where it uses them
+-- a voice sees the same of cells that agree where it may use them
 seen_same : (v : Sounding) (c d : Cells) → Agree (Uses voice_means v) c d
     → seen v.sheet (cell c) ≡ seen v.sheet (cell d)
 seen_same v c d same = grind (arith, common_steps, by_test)

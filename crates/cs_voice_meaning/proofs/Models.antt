@@ -1,4 +1,4 @@
--- The world of a model follows that of another of the same piece, where what the models tell is related.
+-- The world of one model follows the world of another model of the same piece, if the models are related.
 use Rattle.std.proofs.lemmas.{Grind.common_steps, Bool.Decides.nat_tests}
 use Rattle.std.proofs.Common.{◌≡◌, ◌∙◌, ℕ, ℤ, pos, ◌-◌, ◌&&◌, ◌||◌, ◌==◌, ◌++◌, Bool, true, false, not, List, ◌∷◌, []}
 use Rattle.std.proofs.Common.{arith, map, nat_le, slice_index_or, unsigned_abs, Option, Some, None, if◌then◌else◌, refl}
@@ -44,11 +44,11 @@ either_wave : (b : Bool) (v w : Wave) → (b ≡ true → v ≡ w) → (if b the
 either_wave true v w e = e refl
 either_wave false v w e = refl
 
--- the values that a store leaves in a table
+-- the values in a table after a store
 abbrev pub stores : Table → List Wave → ℕ → Wave → Wave
 stores t ws n w = stored (places_of_indices t (operand 1 ws)) (operand 0 ws) n w
 
--- What two models tell is related: at the resources that are named, and for units of these kinds.
+-- Two models are related, for the named resources and for units of these kinds.
 pub record ModelFollows {S U T Y : Type 0} (areas : List Area) (stock : Stock) (piece : Piece) (kinds : Kinds)
     (N : Res → Type 0) (Shares : S → T → Type 0) (Plays : ℕ → U → Y → Type 0) (m : WorldModel S U)
     (k : WorldModel T Y) : Type 0 where
@@ -89,7 +89,7 @@ module _ {S U T Y : Type 0} (areas : List Area) (stock : Stock) (piece : Piece) 
   when true x n y o here there = here refl
   when false x n y o here there = there
 
-  -- ---- one part changes
+  -- ---- one part of the state changes
 
   share : (s : S) (t : T) (x : State S U) (y : State T Y) → Shares s t → R x y
       → R (record x { shared = s }) (record y { shared = t })
@@ -228,7 +228,7 @@ module _ {S U T Y : Type 0} (areas : List Area) (stock : Stock) (piece : Piece) 
   out_at_alike None w x y a = a
   out_at_alike (Some n) w x y a = when _ _ _ _ _ (λ there. out (n - 1) w x y a) a
 
-  -- ---- the whole world
+  -- ---- the complete world
 
   pub models_follow : Follows stock kinds N (world_of (of_piece piece one)) (world_of (of_piece piece two))
       (AreRelated Shares Plays earlier)

@@ -1,4 +1,4 @@
--- What a unit may touch is named: its table, and its zak places.
+-- The resources that a unit may touch are named: its table, and its zak places.
 use Rattle.std.proofs.lemmas.{Grind.common_steps, Bool.Decides.nat_tests}
 use Rattle.std.proofs.Common.{◌≡◌, ℕ, ℤ, zero, suc, ◌+◌, ◌<◌, ◌≤◌, ◌≢◌, Bool, true, false, not, ◌&&◌, ◌==◌, List, ◌∷◌}
 use Rattle.std.proofs.Common.{[], map, nat_lt, unsigned_abs, None, Some, if◌then◌else◌, refl, sym, ◌∙◌, ap, subst}
@@ -46,7 +46,7 @@ in_range n j (suc len) low high = by_test (n == j)
     or_right (n == j) (list_any (λ k. n == k) (range_with_len (j + 1) len))
     (in_range n (j + 1) len (omega arith) (omega arith)))
 
--- a place of a space that is reached
+-- a place of a space within a reach is named
 pub place_named : (N : Res → Type 0) (stock : Stock) (spaces : Spaces) (s : Space) (r : Reach) (n : ℕ)
     → stock.spaces ≡ spaces → AreNamed N (places_within stock s r)
     → (nat_lt n (places_of spaces s) && reaches r n) ≡ true → N (zak_place s n)
@@ -61,12 +61,12 @@ pub no_table : (s : Space) (n : ℕ) → has_value (zak_place s n) ≡ true
 no_table space.Control n = refl
 no_table space.Audio n = refl
 
--- a table that is found has the number that was asked for
+-- a table that is found has the number that was looked up
 pub found_number : (ts : List Table) (z : ℤ) (t : Table) → find_table ts z ≡ Some t → t.number ≡ unsigned_abs z
 found_number [] z t h = absurd (cc)
 found_number (x ∷ ts) z t h = grind (arith, common_steps, and_parts, equal, not, unsigned_abs, found_number ts z t)
 
--- a live table that is reached is named
+-- a live table within a reach is named
 pub table_named : (areas : List Area) (stock : Stock) (piece : Piece) (N : Res → Type 0) → IsPlaced areas stock piece
     → (reach : Reach) (z : ℤ) (t : Table) → AreNamed N (tables_within stock reach)
     → reaches reach (unsigned_abs z) ≡ true → find_table piece.tables z ≡ Some t → t.frozen ≡ None

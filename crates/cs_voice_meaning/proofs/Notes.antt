@@ -1,4 +1,4 @@
--- A voice that begins and runs is in the state of the note of the plain world.
+-- A voice that begins and runs is in the same state as the note of the plain world.
 use Rattle.std.proofs.Common.{◌≡◌, ℕ, ℤ, List, refl, []}
 use Rattle.cs_base.specs.{Rates.res_rate, declared.resource.Res.Res}
 use Rattle.cs_signal.specs.Pace.{Pace}
@@ -10,7 +10,7 @@ use Rattle.cs_voice_meaning.specs.{VoiceWorld.voice_world, Follows.Kinds, Follow
 use Rattle.cs_ugen.specs.Generators.{pace_of}
 use Rattle.cs_voice_meaning.proofs.{Alikes.run_alike, VoiceFollows.voice_follows}
 
--- over cells that have what notes share a voice begins as a note does
+-- a voice begins in the same state as a note, if its cells hold the shared resources
 pub begins_same : (N : Res → Type 0) (areas : List Area) (kinds : Kinds) (pace : Pace) (cells : ℕ → ℤ)
     (shared : Res → Wave) → ((g : Res) → N g → wave_of (area_of areas g) (res_rate g) cells ≡ shared g)
     → SameState N areas kinds pace [] (fresh_voice cells) (fresh shared)

@@ -1,4 +1,4 @@
--- What a voice does over the cells that it sees is what it does over all cells.
+-- A voice has the same effect over the cells that it sees as over all cells.
 use Rattle.std.proofs.Common.{◌≡◌, ℕ, ℤ, pos, ◌<◌, Bool, true, false, List, ◌∷◌, length, Option, Some, None, []}
 use Rattle.std.proofs.Common.{if◌then◌else◌, refl, sym, ◌∙◌, ap, arith}
 use Rattle.std.proofs.lemmas.{Bool.or_right, Grind.common_steps}
@@ -23,7 +23,7 @@ one_unit None None h = refl
 one_unit (Some p) (Some q) h = ap (λ z. Some z) h
 one_unit _ _ h = absurd h
 
--- the machine that sees what the voice may use does as one that sees all
+-- a machine that sees only the cells that the voice may use runs like a machine that sees all cells
 pub cycle_seen : (v : Sounding) (c : ℕ → ℤ) → IsSound v
     → Alike (SameSeen (λ a. may_use v.sheet a ≡ true)) (cycle v (seen v.sheet c)) (cycle v c)
 cycle_seen v c s = run_alike _ _ _ _ _ _ (same_follows _ _ _ _ _ s.placed) _ _ _ _ s.perf_uses (record {
@@ -64,11 +64,11 @@ same_after : (v : Sounding) (m n : Machine VoiceState) → Alike (SameSeen (λ a
 unfolding voice_by
 same_after v m n e = grind (arith, common_steps, one_unit, voice_by)
 
--- the voice after a cycle is the one that performed over all cells
+-- the voice after a cycle is the same as if it had performed over all cells
 pub performed_on_all : (v : Sounding) (c : Cells) → IsSound v → performed v c ≡ voice_of v.sheet (cycle v (cell c))
 performed_on_all v c s = same_after v (cycle v (seen v.sheet (cell c))) (cycle v (cell c)) (cycle_seen v (cell c) s)
 
--- and leaves the cells that its code left
+-- the cells after a cycle are the same as if the voice had performed over all cells
 pub left_on_all : (v : Sounding) (c : Cells) (a : ℕ) → IsSound v → a < length c
     → cell (left_by v c) a ≡ (cycle v (cell c)).world.shared a
 left_on_all v c a s near =

@@ -1,4 +1,4 @@
--- Resources and their cells: what is written into an area is read from it, and no other resource changes.
+-- Resources and their cells: a value written into an area is read from it, and no other resource changes.
 use Rattle.std.proofs.lemmas.{Grind.common_steps, Bool.Decides.nat_tests}
 use Rattle.std.proofs.Common.{◌≡◌, ℕ, ℤ, pos, suc, ◌+◌, ◌-◌, ◌<◌, ◌≤◌, ◌≢◌, Bool, true, false, List, ◌∷◌, nat_lt, []}
 use Rattle.std.proofs.Common.{slice_get, Some, if◌then◌else◌, sym, ◌∙◌, ap, arith, ltb-true}
@@ -12,7 +12,7 @@ use Rattle.cs_base.specs.declared.resource.Rate.TheVariants as rate
 
 -- ---- areas
 
--- a resource's area stands among the areas
+-- a resource's area is one of the areas
 pub area_at : (areas : List Area) (g : Res) (area : Area) → area_of areas g ≡ Some area
     → (place : ℕ) × (slice_get areas place ≡ Some area) × (area.res ≡ g)
 area_at [] g area h = absurd (cc)
@@ -31,7 +31,7 @@ area_at (a ∷ areas) g area h = by_test (same_res a.res g)
     second true e k = absurd (cc)
     second false e k = k
 
--- areas of two resources share no cell
+-- the areas of two resources share no cell
 pub apart : (areas : List Area) (g h : Res) (a b : Area) (x : ℕ) → IsLaid areas → area_of areas g ≡ Some a
     → area_of areas h ≡ Some b → in_area (Some a) x ≡ true → in_area (Some b) x ≡ true → g ≡ h
 apart areas g h a b x laid ha hb xa xb =
@@ -43,9 +43,9 @@ apart areas g h a b x laid ha hb xa xb =
     let same : a ≡ b = cc in
     sym p.2 ∙ ap (λ z. z.res) same ∙ q.2
 
--- ---- waves
+-- ---- signals
 
--- an area has a cell to hold a value in; a sound may have none
+-- an area has a cell for a value; the area of an audio signal may be empty
 abbrev pub Roomy : Rate → ℕ → Type 0
 Roomy rate.Audio n = Unit {0}
 Roomy _ n = 0 < n
@@ -62,14 +62,14 @@ below j n h = ltb-true j n h
 at_or_past : (j n : ℕ) → nat_lt j n ≡ false → n ≤ j
 at_or_past j n h = grind (arith, nat_tests)
 
--- the cells of an area, and no others, make its wave
+-- the value of an area depends only on its cells
 pub wave_same : (r : Rate) (area : Area) (c d : ℕ → ℤ) → Roomy r area.length
     → ((a : ℕ) → in_area (Some area) a ≡ true → c a ≡ d a) → wave_in r area c ≡ wave_in r area d
 wave_same rate.Init area c d some same = λ i j. same area.first (in_first area some) i
 wave_same rate.Control area c d some same = λ i j. same area.first (in_first area some) i
 wave_same rate.Audio area c d some same = grind (arith, common_steps, below, by_test, in_front, nat_lt)
 
--- a wave that an area can hold: one value, or silence beyond its cells
+-- a signal that an area can hold: one value, or 0 beyond the area's cells
 abbrev pub Fits : Rate → Area → Wave → Type 0
 Fits rate.Audio area w = (j : ℕ) → area.length ≤ j → w j ≡ pos 0
 Fits _ area w = (j : ℕ) → w j ≡ w 0
@@ -81,7 +81,7 @@ written_at area w c j h = grind (arith, common_steps, in_front)
 first_written : (area : Area) (w : Wave) (c : ℕ → ℤ) → 0 < area.length → with_wave (Some area) w c area.first ≡ w 0
 first_written area w c h = grind (arith, common_steps, in_first)
 
--- what was written is read
+-- a value that was written is read
 pub wave_written : (r : Rate) (area : Area) (w : Wave) (c : ℕ → ℤ) → Roomy r area.length → Fits r area w
     → wave_in r area (with_wave (Some area) w c) ≡ w
 wave_written rate.Init area w c some fits = λ i j. (first_written area w c some ∙ sym (fits j)) i
@@ -98,7 +98,7 @@ not_in : (areas : List Area) (g h : Res) (a b : Area) (x : ℕ) → IsLaid areas
 not_in areas g h a b x laid ha hb other inside =
     by_test (in_area (Some a) x) (λ yes. absurd (other (sym (apart areas g h a b x laid ha hb yes inside)))) (λ no. no)
 
--- another resource keeps its wave
+-- another resource keeps its value
 pub wave_kept : (areas : List Area) (g h : Res) (a b : Area) (r : Rate) (w : Wave) (c : ℕ → ℤ) → IsLaid areas
     → area_of areas g ≡ Some a → area_of areas h ≡ Some b
     → h ≢ g → Roomy r b.length → wave_in r b (with_wave (Some a) w c) ≡ wave_in r b c

@@ -1,4 +1,4 @@
--- A voice does alike over cells that agree where it may use them.
+-- A voice has the same effect over cells that agree where it may use them.
 use Rattle.std.proofs.lemmas.Grind.{common_steps}
 use Rattle.std.proofs.Common.{arith, ◌≡◌, ℕ, ℤ, ◌-◌, true, List, Option, Some, None, if◌then◌else◌, ap, []}
 use Rattle.cs_base.specs.declared.resource.Res.{Res}
@@ -11,7 +11,7 @@ use Rattle.cs_voice_meaning.specs.Follows.{Kinds, AreRelated}
 use Rattle.cs_voice_meaning.proofs.{Alikes.Follows, Placed.wave_same, Shared.roomy}
 use Rattle.cs_voice_meaning.proofs.Models.{ModelFollows, models_follow, stores}
 
--- Two states of the voice's world with the same cells where P holds, and the same in all else.
+-- Two states of the voice's world whose cells are the same where P holds, and which are otherwise the same.
 abbrev pub SameCells : (ℕ → Type 0) → (ℕ → ℤ) → (ℕ → ℤ) → Type 0
 SameCells P c d = (a : ℕ) → P a → c a ≡ d a
 
@@ -21,7 +21,7 @@ SamePlaying u p q = p ≡ q
 abbrev pub SameSeen : (ℕ → Type 0) → VoiceState → VoiceState → Type 0
 SameSeen P x y = AreRelated (SameCells P) SamePlaying [] x y
 
--- a resource has an area, and all its cells are seen
+-- a resource has an area, all of whose cells are seen
 abbrev pub IsSeen : (ℕ → Type 0) → List Area → Res → Type 0
 IsSeen P areas g = (area : Area) × (area_of areas g ≡ Some area) × ((a : ℕ) → in_area (Some area) a ≡ true → P a)
 

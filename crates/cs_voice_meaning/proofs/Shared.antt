@@ -1,4 +1,4 @@
--- Saving and clearing keep the voice's cells and the plain world's values the same.
+-- Saving and clearing keep the voice's cells and the plain world's values equal.
 use Rattle.std.proofs.lemmas.{Grind.common_steps, Bool.Decides.nat_tests}
 use Rattle.std.proofs.Common.{◌≡◌, ℕ, ℤ, pos, zero, suc, ◌<◌, ◌≤◌, ◌≢◌, Bool, true, false, ◌&&◌, List, ◌∷◌, nat_lt, []}
 use Rattle.std.proofs.Common.{slice_get, Some, if◌then◌else◌, refl, sym, ◌∙◌, ap, arith, ⊎_elim}
@@ -30,7 +30,7 @@ any_from f [] place area at h = absurd (cc)
 any_from f (a ∷ areas) zero area at h = let e : a ≡ area = cc in or_left (f a) (list_any f areas) (ap f e ∙ h)
 any_from f (a ∷ areas) (suc place) area at h = or_right (f a) (list_any f areas) (any_from f areas place area at h)
 
--- cells that are all 0 make silence
+-- an area whose cells are all 0 reads as silence
 pub zeros : (r : Rate) (area : Area) → wave_in r area (λ a. pos 0) ≡ silence
 zeros rate.Init area = refl
 zeros rate.Control area = refl
@@ -48,7 +48,7 @@ fits_frames : (area : Area) (ksmps : ℕ) (w : Wave) → area.length ≡ ksmps
 fits_frames area ksmps w e j h = let at : ksmps ≤ j =
     omega (arith, e, h) in ap (λ b. if b then w j else pos 0) (past_end j ksmps at)
 
--- what is named is read from its cells as it is shared
+-- each named resource has the same value in its cells as in the plain world
 abbrev pub Reads : List Area → (Res → Type 0) → (ℕ → ℤ) → (Res → Wave) → Type 0
 Reads areas N cells shared = (g : Res) → N g → read_cells areas g cells ≡ shared g
 

@@ -1,4 +1,4 @@
--- A control cycle refuses nothing, asks for nothing, and starts no delay.
+-- A control cycle refuses nothing, schedules no note, and starts no delay.
 use Rattle.std.proofs.Common.{arith, ◌≡◌, ℕ, ℤ, ◌+◌, Bool, true, false, List, ◌∷◌, map, Option, None, if◌then◌else◌}
 use Rattle.std.proofs.Common.{refl, ◌∙◌, [], ap}
 use Rattle.std.proofs.lemmas.{Grind.common_steps, Bool.and_parts}
@@ -10,7 +10,7 @@ use Rattle.cs_meaning.proofs.Rest.{Rest, rest, unit_rest, store_rest, zak_rest, 
 use Rattle.cs_voice_meaning.specs.{VoiceWorld.voice_model, Voices.Sounding, Voices.IsSound, Voices.begins, Voices.cycle}
 use Rattle.cs_ir.specs.declared.op.Act.TheVariants as act
 
--- what only the beginning of a voice changes
+-- the parts of a state that only the beginning of a voice changes
 pub record Settled : Type 0 where
   pub delays : ℕ
   pub asks : List (List ℤ)
@@ -48,7 +48,7 @@ module _ {S U : Type 0} (model : WorldModel S U) where
   either_steady true n m z h k = h
   either_steady false n m z h k = k
 
-  -- ops of a control cycle leave it as it was
+  -- ops of a control cycle don't change these parts
   pub run_steady : (place : ℕ) (ops : List Op) (m : Machine (State S U)) → are_of_cycle ops ≡ true
       → settled (run (world_of model) place ops m).world ≡ settled m.world
   run_steady place [] m h = refl

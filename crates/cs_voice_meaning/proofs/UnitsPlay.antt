@@ -1,4 +1,5 @@
--- Units that play come to where their inputs bring them: their start, and their steps in a cycle.
+-- Units that play are in the states that their inputs lead to: at their start, and after their steps in a
+-- cycle.
 use Rattle.std.proofs.lemmas.Grind.{common_steps}
 use Rattle.std.proofs.Common.{◌≡◌, ℕ, ℤ, ◌+◌, ◌<◌, true, List, ◌++◌, nat_lt, refl, sym, ◌∙◌, [], ap, arith, ltb-true}
 use Rattle.cs_base.specs.declared.resource.Rate.{Rate}
@@ -20,7 +21,7 @@ use Rattle.cs_base.specs.declared.resource.Rate.TheVariants as rate
 below_frames : (j n : ℕ) → nat_lt j n ≡ true → j < n
 below_frames j n h = ltb-true j n h
 
--- results that are a formula's step by step are the formula's wave
+-- if each result is the formula's value, the results are the formula's signal
 same_results : (r : Rate) (ksmps : ℕ) (results : List ℤ) (w : ℕ → ℤ)
     → ((k : ℕ) → k < steps_of ksmps r → argument results k ≡ w k)
     → held ksmps r (λ j. argument results (step_at r j)) ≡ held ksmps r (λ j. w (step_at r j))
@@ -30,7 +31,7 @@ same_results rate.Audio ksmps results w each = grind (arith, common_steps, below
 
 -- ---- units
 
--- a unit that starts has no inputs behind it
+-- a unit that starts has no inputs so far
 pub starts_to_play : (pace : Pace) (opcode : Opcode) (r : Rate) (is : List ℤ) → IsUnitOpcode opcode
     → PlaysUnit pace (opcode, r) (record { table = table_number is; state = unit_start opcode r pace is })
     (record { opcode = opcode; rate = r; settled = is; inputs = [] })
@@ -42,11 +43,11 @@ starts_to_play pace opcode r is unit = record {
   stands = (units opcode unit).starts r pace is;
 }
 
--- the result of a unit by its parts
+-- the result of a unit, written out
 abbrev of_parts : Generators → Opcode → Rate → History → List Wave → List ℤ → Wave
 of_parts g opcode r h ws points = λ j. g.gen opcode r h.settled (h.inputs ++ inputs_of ws points (step_at r j + 1))
 
--- a unit's steps in a cycle: where it comes to, and what it answers
+-- the steps of a unit in a cycle: its state afterwards, and its results
 module _ (piece : Piece) (opcode : Opcode) (r : Rate) (p : Playing) (h : History) (ws : List Wave) (points : List ℤ)
     (plays : PlaysUnit (pace_of piece.head) (opcode, r) p h) where
   answered : HasAnswered (gen opcode) (λ u. Stands u opcode) r (pace_of piece.head) h.settled h.inputs

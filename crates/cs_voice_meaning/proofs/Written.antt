@@ -1,4 +1,4 @@
--- A voice changes no cell but those of what its code may write.
+-- A voice changes only cells of resources that its code may write.
 use Rattle.std.proofs.Common.{arith, ◌≡◌, ℕ, ℤ, pos, zero, suc, ◌+◌, ◌-◌, ◌&&◌, Bool, true, false, not, List, ◌∷◌}
 use Rattle.std.proofs.Common.{nat_le, [], slice_get, slice_index_or, Option, Some, None, if◌then◌else◌, refl, sym, ◌∙◌}
 use Rattle.std.proofs.Common.{ap, subst}
@@ -25,7 +25,7 @@ use Rattle.cs_words.specs.declared.catalogue.Shape.TheVariants as shape
 use Rattle.cs_words.specs.declared.catalogue.Space.TheVariants as space
 use Rattle.cs_ir.specs.declared.op.Act.TheVariants as act
 
--- a resource that stands at a place has an area
+-- a resource whose area is at a place has an area
 some_area : (areas : List Area) (place : ℕ) (area : Area) → slice_get areas place ≡ Some area
     → (b : Area) × (area_of areas area.res ≡ Some b)
 some_area [] place area h = absurd (cc)
@@ -42,7 +42,7 @@ some_area (x ∷ areas) (suc place) area h = by_case (some_area areas place area
     by_case later true = (x, refl)
     by_case later false = later
 
--- what is cleared is a place that the space has
+-- a resource that is cleared is an existing place of the space
 cleared_place : (piece : Piece) (sp : Space) (reach : Reach) (first last : ℤ) (g : Res)
     → is_cleared piece sp reach first last g ≡ true
     → (n : ℕ) × (zak_place sp n ≡ g) × (has_place piece sp reach n ≡ true)
@@ -162,7 +162,7 @@ module _ (areas : List Area) (stock : Stock) (piece : Piece) (a : ℕ) (placed :
   either_keeps true n m z h k = h
   either_keeps false n m z h k = k
 
-  -- a cell that lies in nothing that the ops may write keeps its value
+  -- a cell outside all resources that the ops may write keeps its value
   pub run_keeps : (place : ℕ) (ops : List Op) (m : Machine VoiceState)
       → OpsWritten stock (λ g. in_area (area_of areas g) a ≡ false) ops
       → (run (voice_world areas piece) place ops m).world.shared a ≡ m.world.shared a

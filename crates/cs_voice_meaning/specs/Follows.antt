@@ -1,4 +1,5 @@
--- When the world of a voice is in the state of the plain one; and that codes keep it so.
+-- The relation between the states of the voice's world and of the plain world; and the fact that codes
+-- preserve it.
 use Rattle.std.specs.Prelude.{ℕ, ℤ, ◌≡◌, true, List, ◌++◌, Option, Some, None}
 use Rattle.std.specs.List.{AllByRecursion}
 use Rattle.cs_base.specs.{declared.resource.Rate.Rate, declared.resource.Res.Res}
@@ -14,15 +15,16 @@ use Rattle.cs_voice_meaning.specs.Placing.{HasArea, IsPlaced}
 use Rattle.cs_voice_meaning.specs.VoiceWorld.{Playing, VoiceState, read_cells, voice_world}
 use Rattle.cs_ir.specs.declared.op.Act.TheVariants as act
 
--- each of some resources is named
+-- each resource of a list is named
 abbrev pub AreNamed : (Res → Type 0) → List Res → Type 0
 AreNamed N gs = AllByRecursion N gs
 
--- Which opcode and rate the unit of each number has.
+-- The opcode and the rate of the unit with each number.
 abbrev pub Kinds : Type 0
 Kinds = ℕ → Opcode × Rate
 
--- An op at a rate touches what is named and no other, starts and runs units as they are, and saves into no table.
+-- An op at a rate touches only named resources, starts and runs units as their kinds say, and doesn't save
+-- into a table.
 abbrev pub ActNamed : Stock → Kinds → (Res → Type 0) → Act → Rate → Type 0
 ActNamed stock kinds N (act.Load g) r = N g
 ActNamed stock kinds N (act.Save g) r = N g × (has_value g ≡ true)
@@ -32,16 +34,17 @@ ActNamed stock kinds N (act.Store reach) r = AreNamed N (tables_within stock rea
 ActNamed stock kinds N (act.Zak opcode reach) r = AreNamed N (zak_uses stock opcode reach)
 ActNamed stock kinds N _ r = Unit {0}
 
+-- all ops touch only named resources, and start and run units as their kinds say
 abbrev pub OpsNamed : Stock → Kinds → (Res → Type 0) → List Op → Type 0
 OpsNamed stock kinds N ops = AllByRecursion (λ op. ActNamed stock kinds N op.act (rate_at op.into)) ops
 
--- two machines in related states: the same registers and the same next op
+-- two machines in related states, with the same registers and the same next op
 pub record Alike {V W : Type 0} (R : V → W → Type 0) (m : Machine V) (n : Machine W) : Type 0 where
   pub regs : m.regs ≡ n.regs
   pub next : m.next ≡ n.next
   pub world : R m.world n.world
 
--- a unit that plays has come to where all its inputs so far bring it
+-- a unit that plays is in the state that all its inputs so far lead to
 pub record PlaysUnit (pace : Pace) (kind : Opcode × Rate) (p : Playing) (h : History) : Type 0 where
   pub opcode : h.opcode ≡ kind.0
   pub rate : h.rate ≡ kind.1
@@ -49,18 +52,19 @@ pub record PlaysUnit (pace : Pace) (kind : Opcode × Rate) (p : Playing) (h : Hi
   pub unit : IsUnitOpcode kind.0
   pub stands : Stands p.state kind.0 kind.1 pace h.settled h.inputs
 
--- both are there and so related, or neither is
+-- both are present and related, or neither is present
 abbrev pub BothOrNone : {A B : Type 0} → (A → B → Type 0) → Option A → Option B → Type 0
 BothOrNone P None None = Unit {0}
 BothOrNone P (Some a) (Some b) = P a b
 BothOrNone P None (Some b) = ⊥
 BothOrNone P (Some a) None = ⊥
 
+-- a unit is in the same state in both worlds, or exists in neither
 abbrev pub SameUnit : Pace → Opcode × Rate → Option Playing → Option History → Type 0
 SameUnit pace kind p h = BothOrNone (PlaysUnit pace kind) p h
 
--- Two worlds are in related states: what notes share is so related, and each unit, and the rest is the same; of what
--- the one has asked for, all but what the other had asked for earlier.
+-- Two worlds are in related states: their shared resources are related, each unit is related, and everything
+-- else is the same. The first has scheduled the same notes as the second after its `earlier` ones.
 pub record AreRelated {S U T Y : Type 0} (Shares : S → T → Type 0) (Plays : ℕ → U → Y → Type 0)
     (earlier : List (List ℤ)) (x : State S U) (y : State T Y) : Type 0 where
   pub shared : Shares x.shared y.shared
@@ -71,15 +75,15 @@ pub record AreRelated {S U T Y : Type 0} (Shares : S → T → Type 0) (Plays : 
   pub asks : y.asks ≡ earlier ++ x.asks
   pub cause : x.cause ≡ y.cause
 
--- The voice's world is in the state of the plain world: what is named has the same value, and each unit has come to
--- where its inputs bring it.
+-- The voice's world is in the state of the plain world: named resources have the same values, and each unit
+-- is in the state that its inputs lead to.
 abbrev pub SameState : (Res → Type 0) → List Area → Kinds → Pace → List (List ℤ) → VoiceState → Plain → Type 0
 SameState N areas kinds pace earlier x y = AreRelated
     (λ cells shared. (g : Res) → N g → read_cells areas g cells ≡ shared g)
     (λ u p h. PlaysUnit pace (kinds u) p h) earlier x y
 
--- Machines that run the same ops in the voice's world and in the plain one, from the same state, come to the same
--- state: at all resources that have areas, where the ops touch no others.
+-- Machines that run the same ops in the voice's world and in the plain world, from the same state, reach the
+-- same state, for all resources that have areas, if the ops touch no others.
 abbrev pub DoAlike : Type 0
 DoAlike = (areas : List Area) (stock : Stock) (piece : Piece) (kinds : Kinds) (earlier : List (List ℤ)) →
     IsPlaced areas stock piece → piece.generators ≡ the_generators (pace_of piece.head) →

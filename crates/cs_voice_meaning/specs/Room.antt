@@ -1,4 +1,4 @@
--- How much room a voice takes.
+-- The memory that a voice needs.
 use Rattle.std.specs.Prelude.{ℕ, ◌≡◌, ◌+◌, ◌==◌, false, Option, None, nat_lt, if◌then◌else◌}
 use Rattle.cs_ir.specs.{Registers.at_kind, Registers.rate_at, Validity.has_register}
 use Rattle.cs_ir.specs.{Waves.Wave, Waves.held, Waves.silence, declared.register.Counts.Counts}
@@ -7,13 +7,14 @@ use Rattle.cs_voice_meaning.specs.{VoiceWorld.Playing, Voices.Sounding}
 use Rattle.cs_base.specs.declared.resource.Rate.TheVariants as rate
 use Rattle.cs_ir.specs.declared.register.Kind.TheVariants as kind
 
--- How many of so many channels a code with these registers can give to: what it gives is a register of sounds.
+-- The number of channels to which a code with these registers can output: all channels, or none if the code
+-- has no a-rate register.
 abbrev pub channels_for : Counts → ℕ → ℕ
 channels_for counts channels =
     if at_kind counts.registers kind.LocalAudio + at_kind counts.registers kind.TemporaryAudio == 0 then 0 else channels
 
--- Registers, units and channels fit in so many of each, of so many frames: past the last there is nothing, and each
--- register holds what its rate can hold.
+-- The registers, units and channels of a voice fit into these numbers of registers, units, channels and
+-- frames: all beyond are empty, and each register holds what its rate can hold.
 pub record FitsIn (counts : Counts) (ksmps channels : ℕ) (r : Reg → Wave) (us : ℕ → Option Playing)
     (o : ℕ → Wave) : Type 0 where
   pub regs : (q : Reg) → has_register counts q ≡ false → r q ≡ silence
@@ -22,7 +23,8 @@ pub record FitsIn (counts : Counts) (ksmps channels : ℕ) (r : Reg → Wave) (u
   pub outs : (c : ℕ) → nat_lt c channels ≡ false → o c ≡ silence
   pub frames : (c : ℕ) → held ksmps rate.Audio (o c) ≡ o c
 
--- a voice fits in registers and units of so many, and in the channels of its piece that it can give to
+-- a voice fits into these numbers of registers and units, and into the channels of its piece to which it can
+-- output
 abbrev pub VoiceFits : Counts → Sounding → Type 0
 VoiceFits counts v = FitsIn counts v.sheet.piece.head.ksmps (channels_for counts v.sheet.piece.head.nchnls) v.regs
     v.units v.outs

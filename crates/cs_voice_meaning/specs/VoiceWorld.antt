@@ -1,4 +1,4 @@
--- The voice's world: what notes share as cells by address, and each unit as the state that it has come to.
+-- The voice's world: shared resources are cells by address, and each unit is its present state.
 use Rattle.std.specs.Prelude.{ℕ, ℤ, pos, Bool, ◌&&◌, ◌++◌, List, map, Some, if◌then◌else◌}
 use Rattle.std.specs.List.{list_any}
 use Rattle.cs_base.specs.{Rates.res_rate, declared.resource.Rate.Rate, declared.resource.Res.Res}
@@ -10,15 +10,16 @@ use Rattle.cs_meaning.specs.Model.{State, WorldModel, fresh_state, world_of}
 use Rattle.cs_meaning.specs.Pieces.{Piece, steps_of, step_at, table_number}
 use Rattle.cs_voice_meaning.specs.Placing.{area_of, wave_of, with_wave}
 
--- A unit as it plays: the number of the table that it was started with, and the state that it has come to.
+-- A unit that plays: the number of the table that it was started with, and its present state.
 pub record Playing : Type 0 where
   pub table : ℤ
   pub state : UnitState
 
+-- the state of the voice's world
 abbrev pub VoiceState : Type 0
 VoiceState = State (ℕ → ℤ) Playing
 
--- as a voice begins, over these cells
+-- the state as a voice begins, over these cells
 abbrev pub fresh_voice : (ℕ → ℤ) → VoiceState
 fresh_voice = fresh_state
 
@@ -26,17 +27,19 @@ fresh_voice = fresh_state
 abbrev pub read_cells : List Area → Res → (ℕ → ℤ) → Wave
 read_cells areas g cells = wave_of (area_of areas g) (res_rate g) cells
 
+-- a resource is written into its area
 abbrev pub write_cells : List Area → Res → Wave → (ℕ → ℤ) → ℕ → ℤ
 write_cells areas g w cells = with_wave (area_of areas g) w cells
 
--- the cells of each resource that is cleared
+-- whether a cell belongs to a resource that is cleared
 abbrev pub lies_cleared : List Area → (Res → Bool) → ℕ → Bool
 lies_cleared areas clears a = list_any (λ area. in_area (Some area) a && clears area.res) areas
 
+-- the cells of some resources are set to 0
 abbrev pub clear_cells : List Area → (Res → Bool) → (ℕ → ℤ) → ℕ → ℤ
 clear_cells areas clears cells a = if lies_cleared areas clears a then pos 0 else cells a
 
--- the inputs of a step: the moving arguments, and the points
+-- the inputs of a step: the moving arguments, followed by the points
 abbrev pub inputs_at : List Wave → List ℤ → ℕ → List ℤ
 inputs_at ws points j = map (λ w. w j) ws ++ points
 
@@ -44,10 +47,11 @@ inputs_at ws points j = map (λ w. w j) ws ++ points
 abbrev pub played : ℕ → Rate → Playing → List Wave → List ℤ → UnitState × List ℤ
 played ksmps r p ws points = run unit_step (inputs_at ws points) p.state 0 (steps_of ksmps r)
 
+-- the unit after the steps of a cycle, and its result at each frame
 abbrev pub has_played : Rate → Playing → UnitState × List ℤ → Playing × Wave
 has_played r p done = (record p { state = done.0 }, λ j. argument done.1 (step_at r j))
 
--- the world of a piece's voices over areas
+-- the world of a piece's voices, over areas
 abbrev pub voice_model : List Area → Piece → WorldModel (ℕ → ℤ) Playing
 voice_model areas piece = record {
   piece = piece;
@@ -60,5 +64,6 @@ voice_model areas piece = record {
   plays = λ r ws points p. has_played r p (played piece.head.ksmps r p ws points);
 }
 
+-- the world in which a piece's voices perform, over areas
 abbrev pub voice_world : List Area → Piece → World VoiceState
 voice_world areas piece = world_of (voice_model areas piece)

@@ -1,4 +1,4 @@
--- A voice as a job: what it plays from, how it begins, what a cycle makes of it, and what it leaves.
+-- A voice as a job: its sheet, its beginning, the effect of a cycle, and the cells that it leaves.
 use Rattle.std.specs.Prelude.{ℕ, ℤ, pos, ◌≡◌, ◌||◌, Bool, true, List, [], map, length, nat_lt, Option, Some, None}
 use Rattle.std.specs.{Prelude.if◌then◌else◌, List.list_all, List.range_with_len, List.AllByRecursion}
 use Rattle.cs_base.specs.declared.resource.Res.{Res}
@@ -13,9 +13,9 @@ use Rattle.cs_voice_meaning.specs.VoiceWorld.{Playing, VoiceState, fresh_voice, 
 use Rattle.cs_voice_meaning.specs.Follows.{Kinds, AreNamed, OpsNamed}
 use Rattle.cs_ir.specs.declared.op.Act.TheVariants as act
 
--- What a voice plays from: the number of its instrument, its age, which is how many notes were started before it, the
--- piece and the areas that it sounds in, the zones of these that are claimed as one, its footprint over the zones, and
--- the codes that begin it and perform it.
+-- The sheet that a voice plays. It has the number of its instrument, and its age, which is the number of
+-- notes started before it; the piece and the areas in which it sounds; the zones of these areas, each of
+-- which is claimed as one; its footprint over the zones; and the codes that begin it and perform it.
 pub record Sheet : Type 0 where
   pub number : ℕ
   pub age : ℕ
@@ -26,7 +26,7 @@ pub record Sheet : Type 0 where
   pub init : List Op
   pub perf : List Op
 
--- A voice: what it plays from, its registers and units, the samples of its delays, its output channels, and whether it
+-- A voice: its sheet, its registers and units, the samples of its delays, its output channels, and whether it
 -- was turned off.
 pub record Sounding : Type 0 where
   pub sheet : Sheet
@@ -36,11 +36,11 @@ pub record Sounding : Type 0 where
   pub outs : ℕ → Wave
   pub ended : Bool
 
--- what the code that begins a voice does, over cells
+-- the effect of the code that begins a voice, over cells
 abbrev pub initialised : Sheet → (ℕ → ℤ) → Machine VoiceState
 initialised s cells = run (voice_world s.areas s.piece) 0 s.init (new_machine (fresh_voice cells))
 
--- the voice that a machine has become
+-- the voice in the final state of a machine
 abbrev pub voice_of : Sheet → Machine VoiceState → Sounding
 voice_of s m = record {
   sheet = s;
@@ -51,18 +51,19 @@ voice_of s m = record {
   ended = m.world.ended;
 }
 
--- whether a cell is one that the voice may use, or may write
+-- whether the voice may use a cell, or may write it
 abbrev pub may_use : Sheet → ℕ → Bool
 may_use s a = covers s.zones s.foot.uses a || covers s.zones s.foot.writes a
 
+-- whether the voice may write a cell
 abbrev pub may_write : Sheet → ℕ → Bool
 may_write s a = covers s.zones s.foot.writes a
 
--- the cells as the voice sees them: any that it doesn't use is 0
+-- the cells as the voice sees them; a cell that it doesn't use is 0
 abbrev pub seen : Sheet → (ℕ → ℤ) → ℕ → ℤ
 seen s cells a = if may_use s a then cells a else pos 0
 
--- the voice as a machine that begins a cycle over cells, with its output cleared; and the machine after the cycle
+-- the voice as a machine that begins a cycle over cells, with its output cleared
 abbrev pub begins : Sounding → (ℕ → ℤ) → Machine VoiceState
 begins v cells = record {
   regs = v.regs;
@@ -78,6 +79,7 @@ begins v cells = record {
   };
 }
 
+-- the machine after a cycle over cells
 abbrev pub cycle : Sounding → (ℕ → ℤ) → Machine VoiceState
 cycle v cells = run (voice_world v.sheet.areas v.sheet.piece) 0 v.sheet.perf (begins v cells)
 
@@ -85,32 +87,37 @@ cycle v cells = run (voice_world v.sheet.areas v.sheet.piece) 0 v.sheet.perf (be
 abbrev pub performed : Sounding → Cells → Sounding
 performed v c = voice_of v.sheet (cycle v (seen v.sheet (cell c)))
 
--- the cells after it: those that it may write, as the code leaves them
+-- the cells after a cycle: the cells that the voice may write are as its code leaves them, and all others are
+-- unchanged
 abbrev pub left_by : Sounding → Cells → Cells
 left_by v c = map (λ a. if may_write v.sheet a then (cycle v (seen v.sheet (cell c))).world.shared a else cell c a)
     (range_with_len 0 (length c))
 
--- a resource has an area of which the voice may use each cell, or may write each cell
+-- a resource has an area, of which the voice may use each cell; or may write each cell
 abbrev pub IsUsed : Sheet → Res → Type 0
 IsUsed s g = (area : Area) × (area_of s.areas g ≡ Some area)
     × ((a : ℕ) → in_area (Some area) a ≡ true → may_use s a ≡ true)
 
+-- the voice may write each cell of a resource's area
 abbrev pub IsWritten : Sheet → Res → Type 0
 IsWritten s g = (a : ℕ) → in_area (area_of s.areas g) a ≡ true → may_write s a ≡ true
 
+-- all resources that ops may write satisfy N
 abbrev pub OpsWritten : Stock → (Res → Type 0) → List Op → Type 0
 OpsWritten stock N ops = AllByRecursion (λ op. AreNamed N (act_writes stock op.act)) ops
 
--- whether each op that sends to a channel finds it
+-- whether an op that outputs to a channel finds this channel
 abbrev pub has_channel : ℕ → Act → Bool
 has_channel channels (act.Out c) = nat_lt c channels
 has_channel channels _ = true
 
+-- whether all ops that output to a channel find this channel
 abbrev pub have_channels : ℕ → List Op → Bool
 have_channels channels ops = list_all (λ op. has_channel channels op.act) ops
 
--- What can be played: what the codes touch has its area, and in a cycle lies in the footprint; each unit is of one
--- kind, each channel is there; and a cycle takes no memory and refuses nothing.
+-- The conditions under which a sheet can be played. Each resource that the codes touch has an area, which in
+-- a cycle is in the footprint. Each unit has one kind, and each channel exists. A cycle allocates no memory
+-- and refuses nothing.
 pub record IsPlayable (s : Sheet) : Type 0 where
   pub stock : Stock
   pub kinds : Kinds
@@ -122,10 +129,11 @@ pub record IsPlayable (s : Sheet) : Type 0 where
   pub perf_channels : have_channels s.piece.head.nchnls s.perf ≡ true
   pub perf_acts : are_of_cycle s.perf ≡ true
 
+-- a voice is sound if its sheet can be played
 abbrev pub IsSound : Sounding → Type 0
 IsSound v = IsPlayable v.sheet
 
--- what a voice means as a job
+-- the meaning of a voice as a job
 abbrev pub voice_means : Meaning Sounding
 voice_means = record {
   areas = λ v. v.sheet.zones;

@@ -1,13 +1,13 @@
-//! What a note is as it sounds: the world that a voice performs its code in, and how it stands for the note of the
-//! meaning.
+//! The meaning of a note as it is played: the world in which a voice performs its code, and how it
+//! corresponds to the note of the meaning.
 //!
-//! In the order of reading: specs/Placing says where what notes share has its cells, specs/VoiceWorld what a voice does
-//! in them, specs/Follows when the voice's world and the plain world of the meaning are in the same state, specs/Voices
-//! what a voice is as a job.
+//! In reading order: specs/Placing maps shared resources to their cells. specs/VoiceWorld defines the actions
+//! of a voice on cells. specs/Follows relates the state of the voice's world to the state of the plain world.
+//! specs/Voices defines a voice as a job.
 //!
-//! The one contract: `voices_stand_for_notes`, by which a code does over cells and the states of units what it does in
-//! the plain world; with it `voices_obey_the_frame_law`. How registers, units and cells lie in memory may change
-//! without anyone above noticing. No code stands here.
+//! Its one contract: by `voices_stand_for_notes`, a code has the same effect over cells and the states of
+//! units as in the plain world; `voices_obey_the_frame_law` goes with it. The layout of registers, units and
+//! cells in memory may change without anyone above noticing. This crate has no code.
 #![tactic(auto)]
 
 mod examples;

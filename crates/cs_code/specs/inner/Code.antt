@@ -16,22 +16,24 @@ use Rattle.cs_base.specs.declared.resource.Rate.TheVariants as rate
 use Rattle.cs_ir.specs.declared.op.Act.TheVariants as act
 use Rattle.cs_code.specs.declared.frame.Pass.TheVariants as pass
 
--- nothing where a value stands already, else its code; and a copy of what stands already, else the code
+-- the code of a value, or nothing if it is in a register already
 abbrev pub unless_there : Option Reg → List Op → List Op
 unless_there (Some q) code = []
 unless_there None code = code
 
+-- a copy of a value that is in a register already, otherwise the value's code
 abbrev pub copied : Option Reg → Reg → List Op → List Op
 copied (Some q) x code = op_of act.Copy x (q ∷ []) ∷ []
 copied None x code = code
 
--- a variable's value into a register
+-- the code that puts a variable's value into a register
 abbrev pub look_code : Variable → Reg → List Op
 look_code (Local q n) x = op_of act.Copy x (reg q n ∷ []) ∷ []
 look_code (Global g) x = op_of (act.Load g) x [] ∷ []
 
--- The value of an expression that stands nowhere yet, into a register: its operands first, each where it stands or into
--- the temporary of its rate from d on, and then its own op. The register may be temporary d itself: it is written last.
+-- The code that computes an expression into a register. Its operands come first, each in the register that
+-- already holds it or in the temporary of its rate from d on, followed by its own op. The target register may
+-- be temporary d itself, since it is written last.
 abbrev pub own : When → ℕ → Expression → Reg → ℕ → List Op
 own when at (number r n) x d = op_of (act.Const n) x [] ∷ []
 own when at (var r v) x d = look_code v x
@@ -55,22 +57,25 @@ own when at (apply r g a) x d =
     unless_there (direct when at a) (own when at a (temp (node_rate a) d) d)
     ++ (op_of (act.Call g) x (spot when at a d ∷ []) ∷ [])
 
--- the value of an expression into a register, by a copy where it stands already; and what makes it stand somewhere
+-- the code that puts an expression into a given register, a copy if a register holds it already
 abbrev pub code : When → ℕ → Expression → Reg → ℕ → List Op
 code when at e x d = copied (direct when at e) x (own when at e x d)
 
+-- the code that puts an expression into some register
 abbrev pub operand_code : When → ℕ → Expression → ℕ → List Op
 operand_code when at e d =
     unless_there (direct when at e) (own when at e (temp (node_rate e) d) d)
 
+-- the code that puts expressions into registers
 abbrev pub operands_code : When → ℕ → List Expression → ℕ → List Op
 operands_code when at [] d = []
 operands_code when at (e ∷ es) d = operand_code when at e d ++ operands_code when (past at e) es (d + 1)
 
--- the outermost parts that don't change, each into its register
+-- the code of the outermost parts that don't change, each into its register
 abbrev pub kept_code : ℕ → Expression → List Op
 kept_code at e = code beginning 0 e (kept_reg at) 0
 
+-- the code of the kept parts of an expression
 abbrev pub keep_code : ℕ → Expression → List Op
 keep_code at (number r n) = if_init r (kept_code at (number r n)) []
 keep_code at (var r v) = if_init r (kept_code at (var r v)) []
@@ -84,11 +89,13 @@ keep_code at (pick r c y z) =
     (keep_code at c ++ (keep_code (past at c) y ++ keep_code (past (past at c) y) z))
 keep_code at (apply r g a) = if_init r (kept_code at (apply r g a)) (keep_code at a)
 
+-- the code of the kept parts of expressions
 abbrev pub keep_all_code : ℕ → List Expression → List Op
 keep_all_code at [] = []
 keep_all_code at (e ∷ es) = keep_code at e ++ keep_all_code (past at e) es
 
--- A variable takes a value: a local one of the same rate by the value's own last op, any other by a copy or a store.
+-- An assignment. A local variable of the same rate is written directly by the value's last op; any other
+-- variable by a copy or a store.
 abbrev pub set_code : When → ℕ → Variable → Expression → List Op
 set_code when at (Local q n) e =
     if same_rate (node_rate e) q then code when at e (reg q n) 0
@@ -96,28 +103,31 @@ set_code when at (Local q n) e =
 set_code when at (Global g) e =
     operand_code when at e 0 ++ (op_of (act.Save g) (spot when at e 0) (spot when at e 0 ∷ []) ∷ [])
 
--- where a unit's result goes, and what is left to do then
+-- the register of a unit's result
 abbrev pub target : Rate → List Variable → Reg
 target r (Local q n ∷ vs) = if same_rate q r then reg q n else temp r 0
 target r _ = temp r 0
 
+-- the remaining code after a unit's result is computed
 abbrev pub given_code : Rate → List Variable → List Op
 given_code r [] = []
 given_code r (Local q n ∷ vs) = if same_rate q r then [] else op_of act.Copy (reg q n) (temp r 0 ∷ []) ∷ []
 given_code r (Global g ∷ vs) = op_of (act.Save g) (temp r 0) (temp r 0 ∷ []) ∷ []
 
--- an op on values, after their code; and then what is left to do with its result
+-- an op on values, after their code
 abbrev pub on_code : When → ℕ → Act → Reg → List Expression → List Op
 on_code when at a into es = operands_code when at es 0 ++ (op_of a into (spots when at es 0) ∷ [])
 
+-- an op on values, after their code and before the remaining code for its result
 abbrev pub run_code : When → ℕ → Act → Rate → List Variable → List Expression → List Op
 run_code when at a r vs xs =
     operands_code when at xs 0 ++ (op_of a (target r vs) (spots when at xs 0) ∷ given_code r vs)
 
--- a unit is started, and runs
+-- the start of a unit, and its run
 abbrev pub start_code : Rate → Opcode → ℕ → List Expression → List Op
 start_code r opcode u is = on_code beginning 0 (act.Start opcode u) (temp r 0) is
 
+-- the run of a unit
 abbrev pub unit_code : When → ℕ → Rate → List Variable → Opcode → ℕ → Reach → List Expression → List Op
 unit_code when at r vs opcode u reach xs = run_code when at (act.Unit opcode u reach) r vs xs
 
@@ -125,34 +135,36 @@ unit_code when at r vs opcode u reach xs = run_code when at (act.Unit opcode u r
 abbrev pub zak_code : When → ℕ → Rate → List Variable → Opcode → Reach → List Expression → List Op
 zak_code when at r vs opcode reach xs = run_code when at (act.Zak opcode reach) r vs xs
 
--- a store looks for its table, and stores
+-- a store looks up its table, and stores
 abbrev pub seek_code : List Expression → List Op
 seek_code is = on_code beginning 0 act.Seek (temp rate.Init 0) is
 
+-- a store of a value
 abbrev pub store_code : When → ℕ → Rate → Reach → List Expression → List Op
 store_code when at r reach es = on_code when at (act.Store reach) (temp r 0) es
 
--- a note is asked for
+-- a note is scheduled
 abbrev pub ask_code : List Expression → List Op
 ask_code es = on_code beginning 0 act.Ask (temp rate.Init 0) es
 
--- values go out: to the channels from one on, and in pairs of a channel's number and a value
+-- values are output to the channels from `c` on
 abbrev pub out_ops : ℕ → List Reg → List Op
 out_ops c [] = []
 out_ops c (q ∷ qs) = op_of (act.Out c) q (q ∷ []) ∷ out_ops (c + 1) qs
 
+-- values are output in pairs of a channel's number and a value
 abbrev pub out_at_ops : List Reg → List Op
 out_at_ops (p ∷ q ∷ qs) = op_of act.OutAt q (p ∷ q ∷ []) ∷ out_at_ops qs
 out_at_ops _ = []
 
--- An arm at a place: its condition, a jump over the body where it doesn't hold, the body, a jump over the rest, the
--- rest.
+-- An arm at a place: its condition, a jump past its body that is taken if the condition doesn't hold, its
+-- body, a jump past the remaining arms, and the remaining arms.
 abbrev pub arm_code : ℕ → List Op → Reg → List Op → List Op → List Op
 arm_code place cond q body rest =
     cond ++ (op_of (act.Unless (place + length cond + 1 + length body + 1)) q (q ∷ [])
     ∷ (body ++ (op_of (act.Jump (place + length cond + 1 + length body + 1 + length rest)) q [] ∷ rest)))
 
--- The code of a statement that is no `if`, as the note begins and in a cycle: the same at each place.
+-- The code of a statement that is no `if`, as the note begins and in a cycle. It doesn't depend on its place.
 abbrev pub simple_code : Pass → Progress → Stmt → List Op
 simple_code pass.Initialisation p (set r v e) = if_init r (set_code beginning 0 v e) (keep_code p.part e)
 simple_code pass.Initialisation p (unit r vs opcode reach xs is) =
@@ -177,22 +189,23 @@ simple_code pass.Performance p (out_at r es) =
 simple_code pass.Performance p (turnoff r) = op_of act.Turnoff (temp rate.Init 0) [] ∷ []
 simple_code way p _ = []
 
--- the code of the condition of an arm, and where the condition stands
+-- the code of the condition of an arm
 abbrev pub cond_code : Pass → ℕ → Expression → List Op
 cond_code pass.Initialisation at c = keep_code at c
 cond_code pass.Performance at c = operand_code cycle at c 0
 
+-- the register that holds the condition of an arm
 abbrev pub cond_reg : Pass → ℕ → Expression → Reg
 cond_reg pass.Initialisation at c = kept_reg at
 cond_reg pass.Performance at c = spot cycle at c 0
 
--- the code of an `if`, by that of one arm that is chosen and that of all: as a note begins all arms are initialised of
--- an `if` that goes on
+-- the code of an `if`, chosen from the code in which one arm is performed and the code of all arms: as a note
+-- begins, all arms are initialised if the `if` isn't i-rate
 abbrev pub choice_code : Pass → Rate → List Op → List Op → List Op
 choice_code pass.Initialisation r one all = if_init r one all
 choice_code pass.Performance r one all = one
 
--- the code of statements that begins at a place, as the note begins and in a cycle; and of arms
+-- the code of statements that begins at a place, as the note begins and in a cycle; and the code of arms
 abbrev mutual
   pub pass_code : Pass → ℕ → Progress → Stmt → List Op
   pass_code way place p (choose r arms) =
@@ -220,21 +233,26 @@ abbrev mutual
       let body = pass_block_code pass.Initialisation (place + length cond) q b in
       cond ++ (body ++ all_code (place + length cond + length body) (past_block q b) rest)
 
--- each pass by itself
+-- the code of each pass
 abbrev pub init_code : ℕ → Progress → Stmt → List Op
 init_code place p s = pass_code pass.Initialisation place p s
 
+-- the code of a block, as the note begins
 abbrev pub init_block_code : ℕ → Progress → Block → List Op
 init_block_code place p b = pass_block_code pass.Initialisation place p b
 
+-- the code of arms of which one is performed, as the note begins
 abbrev pub first_code : ℕ → Progress → Arms → List Op
 first_code place p arms = chosen_code pass.Initialisation place p arms
 
+-- the code of a statement in a cycle
 abbrev pub perf_code : ℕ → Progress → Stmt → List Op
 perf_code place p s = pass_code pass.Performance place p s
 
+-- the code of a block in a cycle
 abbrev pub perf_block_code : ℕ → Progress → Block → List Op
 perf_block_code place p b = pass_block_code pass.Performance place p b
 
+-- the code of arms in a cycle
 abbrev pub perf_arms_code : ℕ → Progress → Arms → List Op
 perf_arms_code place p arms = chosen_code pass.Performance place p arms

@@ -1,4 +1,4 @@
--- What the functions that make code work on, in the words of the definitions.
+-- The inputs of the functions that generate code, in the terms of the definitions.
 use Rattle.std.specs.Prelude.{◌≡◌, ℕ, Bool, false, not, zero, suc, ◌+◌, ◌-◌, ◌&&◌, ◌++◌, List, [], ◌∷◌, length, min}
 use Rattle.std.specs.Prelude.{nat_lt, nat_le, Option, Some, None, map, if◌then◌else◌, pos}
 use Rattle.std.specs.{Borrow.Bor, Option.option_map}
@@ -27,25 +27,28 @@ use Rattle.cs_code.specs.declared.reach.KnownArgument.TheVariants as known
 use Rattle.cs_code.specs.declared.simple.Sending.TheVariants as sending
 use Rattle.cs_code.specs.declared.value.Value.TheVariants as value
 
--- what is lowered: expressions that are lent, and what a variable takes
+-- the expressions that references point to
 abbrev pub expressions_of : List (Bor TypedExpr) → List Expression
 expressions_of es = map (λ e. typed.expression e.now) es
 
+-- the expression of a value
 abbrev pub value_of : Value → Expression
 value_of (value.Of e) = typed.expression e.now
 value_of (value.Read r v) = var r v
 value_of (value.Mixed v e) = plus rate.Audio v (typed.expression e.now)
 value_of value.Zero = number rate.Init (pos 0)
 
--- an assignment: how often it is done, the variable, and what it takes
+-- an assignment: its rate, the variable, and the value
 pub record Assigned : Type 0 where
   pub done : Rate
   pub to : Variable
   pub value : Expression
 
+-- an assignment of the code, as the definitions write it
 abbrev pub assignment_of : Assignment → Assigned
 assignment_of a = record { done = a.done; to = a.to; value = value_of a.value }
 
+-- the core statement of an assignment
 abbrev pub set_of : Assigned → Stmt
 set_of a = set a.done a.to a.value
 
@@ -53,33 +56,37 @@ set_of a = set a.done a.to a.value
 abbrev pub arguments_of : Call → List typed.Argument
 arguments_of k = map typed.argument k.args.now
 
--- an argument, where it is taken
+-- an argument as a list, empty if it isn't taken
 abbrev pub taken : Bool → typed.Argument → List Expression
 taken b (typed.value e) = if b then e ∷ [] else []
 taken b (typed.text v) = []
 
--- what statements are lowered in: the zak spaces of the piece, and the routines that they may invoke
+-- the surroundings of statements: the zak spaces of the piece, and the routines that they may invoke
 pub record Scope : Type 0 where
   pub spaces : Spaces
   pub routines : List typed.Block
 
+-- the surroundings with these zak spaces and routines
 abbrev pub scope_of : Spaces → List typed.Block → Scope
 scope_of spaces routines = record { spaces = spaces; routines = routines }
 
--- a block of the tree as it is lowered; a statement that stands alone; statements, and one of them
+-- a block of the typed tree as core statements
 abbrev pub core_in : Scope → typed.Block → Block
 core_in o b = core o.spaces b
 
+-- a single statement as core statements
 abbrev pub alone_in : Spaces → typed.Statement → Block
 alone_in spaces x = core spaces (typed.alone x)
 
+-- statements as core statements
 abbrev pub block_in : Scope → List TypedStmt → Block
 block_in o stmts = core_in o (typed.block o.routines stmts)
 
+-- one statement as core statements
 abbrev pub statement_in : Scope → TypedStmt → Block
 statement_in o s = core_in o (typed.statement o.routines s)
 
--- what the routine of a number does, its local variables numbered from a base on
+-- the statements of the routine with a number, its local variables numbered from a base on
 abbrev pub invoked_in : Scope → ℕ → PerRate ℕ → Block
 invoked_in o k base = core_in o (typed.moved_block base (typed.routine_at o.routines k))
 
@@ -87,43 +94,47 @@ invoked_in o k base = core_in o (typed.moved_block base (typed.routine_at o.rout
 abbrev pub arms_in : Scope → typed.Block → List TypedArm → Arms
 arms_in o els arms = core_arms o.spaces (typed.arms o.routines els arms)
 
--- when a code runs
+-- the time at which the code of a pass runs
 abbrev pub when_of : Pass → When
 when_of pass.Initialisation = beginning
 when_of pass.Performance = cycle
 
--- an arm that is initialised whatever its condition is
+-- an arm that is initialised regardless of its condition
 abbrev pub each_arm_code : ℕ → Progress → Expression → Block → List Op
 each_arm_code place p c b =
     keep_code p.part c
     ++ pass_block_code pass.Initialisation (place + length (keep_code p.part c)) (past_parts (past p.part c) p) b
 
--- what is known of one of some expressions, counted from 0: of a literal the whole number below it
+-- the known facts about an expression in a list, counted from 0: for a literal its value rounded down
 abbrev pub known_of : Expression → KnownArgument
 known_of (number r v) = known.Literal (whole_part v)
 known_of _ = known.Other
 
+-- the known facts about the expression at an index
 abbrev pub known_at : List Expression → ℕ → KnownArgument
 known_at [] k = known.Missing
 known_at (e ∷ es) zero = known_of e
 known_at (e ∷ es) (suc k) = known_at es k
 
--- what may be touched by what is known
+-- the resources that may be touched, by the known facts
 abbrev pub table_known : KnownArgument → Reach
 table_known (known.Literal n) = reach.Span n n
 table_known _ = reach.Any
 
+-- the zak places that may be touched, by the known facts about an index
 abbrev pub place_known : ℕ → KnownArgument → Reach
 place_known places (known.Literal n) = if nat_lt n places then reach.Span n n else reach.Nothing
 place_known places known.Other = reach.Any
 place_known places known.Missing = reach.Nothing
 
+-- the zak places that may be touched, by the known facts about two bounds
 abbrev pub span_known : ℕ → KnownArgument → KnownArgument → Reach
 span_known places k known.Missing = reach.Nothing
 span_known places (known.Literal n) (known.Literal m) =
     if nat_lt n places && nat_le n m then reach.Span n (min m (places - 1)) else reach.Nothing
 span_known places _ _ = reach.Any
 
+-- the zak places that an opcode may touch, by its shape and the known facts about two values
 abbrev pub zak_known : Spaces → Shape → KnownArgument → KnownArgument → Reach
 zak_known spaces (shape.ZakGet s) x y = place_known (places_of spaces s) x
 zak_known spaces (shape.ZakPut s) x y = place_known (places_of spaces s) y
@@ -135,12 +146,12 @@ zak_known spaces _ x y = reach.Nothing
 abbrev pub called : Call → typed.Statement
 called k = typed.call 0 k.rate k.results.now k.opcode (arguments_of k)
 
--- whether the arms of an `if` are all initialised, while nothing is chosen yet
+-- whether all arms of an `if` are initialised, while none is chosen yet
 abbrev pub takes_all : Pass → Rate → Bool
 takes_all pass.Initialisation r = not (is_init r)
 takes_all pass.Performance r = false
 
--- the assignment that a call of a shape is short for, if it is
+-- the assignment that is the core statement of a call with this shape, if it is one
 abbrev pub assigned : Shape → Rate → List Variable → List typed.Argument → Option Assigned
 assigned shape.Init r (v ∷ vs) (typed.value e ∷ args) = Some (record { done = rate.Init; to = v; value = e })
 assigned shape.ChannelGet r (v ∷ vs) (typed.text c ∷ args) = Some (record { done = r; to = v; value = var r c })
@@ -151,17 +162,18 @@ assigned shape.ChannelClear r vs (typed.text c ∷ args) =
     Some (record { done = r; to = c; value = number rate.Init (pos 0) })
 assigned _ r vs args = None
 
--- what is found is the assignment that a call is short for by a shape, or that there is none
+-- the result of a search is the assignment that is a call's core statement, or None if that isn't an
+-- assignment
 abbrev pub IsAssignmentOf : Option Assignment → Shape → Call → Type 0
 IsAssignmentOf found sh k =
     option_map assignment_of found ≡ assigned sh k.rate k.results.now (arguments_of k)
 
--- the shape of a call that puts a value into a channel
+-- the shape of a call that assigns a value to a channel
 abbrev pub put_shape : Putting → Shape
 put_shape putting.Value = shape.ChannelPut
 put_shape putting.Sum = shape.ChannelMix
 
--- what a call of a shape is short for that is no assignment
+-- the core statement of a call with this shape, if that isn't an assignment
 abbrev pub effect : Spaces → Rate → List Variable → Opcode → Shape → List typed.Argument → Stmt
 effect o r vs opcode shape.Unit args = unit_call r vs opcode args
 effect o r vs opcode shape.Store args = store_call r opcode args
@@ -175,14 +187,16 @@ effect o r vs opcode shape.Turnoff args = turnoff r
 effect o r vs opcode shape.Ask args = ask (values_of args)
 effect o r vs opcode _ args = nothing
 
+-- the core statement of a call, if that isn't an assignment
 abbrev pub effect_of : Spaces → Call → Shape → Stmt
 effect_of o k sh = effect o k.rate k.results.now k.opcode sh (arguments_of k)
 
--- values go out, to the channels in turn or each to that of its number
+-- Values are output to the channels, either in channel order or each to the channel number given with it.
 abbrev pub sent_as : Sending → Rate → List Expression → Stmt
 sent_as sending.InTurn r es = out r es
 sent_as sending.ByNumber r es = out_at r es
 
+-- the ops that output registers
 abbrev pub sent_ops : Sending → List Reg → List Op
 sent_ops sending.InTurn qs = out_ops 0 qs
 sent_ops sending.ByNumber qs = out_at_ops qs

@@ -1,4 +1,4 @@
--- Which register each kept value has: they are numbered in the order of the text.
+-- The register of each kept value: kept values are numbered in the order of the text.
 use Rattle.std.specs.Prelude.{ℕ, zero, suc, ◌+◌, List, [], ◌∷◌, Option, Some, None}
 use Rattle.cs_ir.specs.Waves.{if_init}
 use Rattle.cs_meaning.specs.Core.{Stmt, Block, Arms, set, unit, zak, store, out, out_at, ask, turnoff, nothing, choose}
@@ -6,11 +6,12 @@ use Rattle.cs_meaning.specs.{Core.no_stmt, Core.andthen, Core.otherwise, Core.ar
 use Rattle.cs_typed.specs.TypedTree.{Expression, number, var, field, head, neg, pair, pick, apply}
 use Rattle.cs_code.specs.declared.frame.Progress.{Progress}
 
+-- the progress at the beginning of a code
 abbrev pub start : Progress
 start = record { part = 0; unit = 0 }
 
--- Of an expression that changes the outermost parts that don't are kept, in the order of the text: the number after
--- theirs.
+-- In an expression that changes, the outermost parts that don't are kept, in the order of the text. This is
+-- the number after the last of them.
 abbrev pub past : ℕ → Expression → ℕ
 past at (number r n) = if_init r (at + 1) at
 past at (var r v) = if_init r (at + 1) at
@@ -21,10 +22,12 @@ past at (pair r o a b) = if_init r (at + 1) (past (past at a) b)
 past at (pick r c a b) = if_init r (at + 1) (past (past (past at c) a) b)
 past at (apply r f a) = if_init r (at + 1) (past at a)
 
+-- the number of the next kept value after these expressions
 abbrev pub past_all : ℕ → List Expression → ℕ
 past_all at [] = at
 past_all at (e ∷ es) = past_all (past at e) es
 
+-- the progress with n kept values
 abbrev pub past_parts : ℕ → Progress → Progress
 past_parts n p = record { part = n; unit = p.unit }
 
@@ -50,22 +53,24 @@ abbrev mutual
   past_arms p (otherwise b) = past_block p b
   past_arms p (arm c b rest) = past_arms (past_block (past_parts (past p.part c) p) b) rest
 
--- ---- the number of the value that is kept at a path, which leads inward here
+-- ---- the number of the value that is kept at a path; here a path leads inward
 
--- a value that is kept as a whole, and nothing that is kept
+-- the number of a value that is kept completely, at the empty path only
 abbrev pub itself : ℕ → Path → Option ℕ
 itself at [] = Some at
 itself at (k ∷ q) = None
 
+-- no value is kept at any path
 abbrev pub nowhere : Path → Option ℕ
 nowhere q = None
 
--- what is kept in the first part, and in those behind it
+-- the numbers of the values kept in the first part, and of those kept in the later parts
 abbrev pub parts : (Path → Option ℕ) → (Path → Option ℕ) → Path → Option ℕ
 parts first behind [] = None
 parts first behind (zero ∷ q) = first q
 parts first behind (suc k ∷ q) = behind (k ∷ q)
 
+-- the number of the value that is kept at a path of an expression
 abbrev pub numbers : ℕ → Expression → Path → Option ℕ
 numbers at (number r n) = if_init r (itself at) nowhere
 numbers at (var r v) = if_init r (itself at) nowhere
@@ -78,6 +83,7 @@ numbers at (pick r c a b) =
     (parts (numbers at c) (parts (numbers (past at c) a) (parts (numbers (past (past at c) a) b) nowhere)))
 numbers at (apply r f a) = if_init r (itself at) (parts (numbers at a) nowhere)
 
+-- the number of the value that is kept at a path of expressions
 abbrev pub all_numbers : ℕ → List Expression → Path → Option ℕ
 all_numbers at [] = nowhere
 all_numbers at (e ∷ es) = parts (numbers at e) (all_numbers (past at e) es)
@@ -104,11 +110,12 @@ abbrev mutual
   arms_numbers p (arm c b rest) = let q = past_parts (past p.part c) p in
       parts (parts (numbers p.part c) (parts (block_numbers q b) nowhere)) (arms_numbers (past_block q b) rest)
 
--- A path with more steps inward; and as it leads inward, from the body on.
+-- A path extended by further steps inward; with an empty path, it reverses the direction: it then leads
+-- inward, from the body on.
 abbrev pub inward : Path → Path → Path
 inward [] p = p
 inward (k ∷ q) p = inward q (k ∷ p)
 
--- the numbers of what a block keeps
+-- the numbers of the values that a block keeps
 abbrev pub registers : Block → Path → Option ℕ
 registers b p = block_numbers start b (inward p [])

@@ -1,8 +1,8 @@
--- Windows as they are kept: a number for each kind of register.
+-- Windows as they are stored: a number for each kind of register.
 use Rattle.std.specs.Prelude.{ℕ, List, [], ◌∷◌, slice_index_or}
 use Rattle.cs_ir.specs.Flat.{Begins}
 
--- what contracts see of the numbers of kinds, and of the unit
+-- the view in contracts of the numbers by kind, and of the first unit
 abbrev pub seen : List ℕ → ℕ → Begins
 seen begins unit = record {
   locals = record {
@@ -14,6 +14,6 @@ seen begins unit = record {
   unit = unit;
 }
 
--- where the registers of each kind begin, by the number of the kind
+-- the number of the first register of each kind, by the number of the kind
 abbrev pub numbers : Begins → List ℕ
 numbers w = w.locals.init ∷ w.locals.control ∷ w.kept ∷ 0 ∷ 0 ∷ w.locals.audio ∷ 0 ∷ []

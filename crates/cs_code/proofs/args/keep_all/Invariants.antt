@@ -3,7 +3,7 @@ use Rattle.cs_code.specs.{inner.Code.keep_all_code, inner.Emitted.expressions_of
 use Rattle.cs_code.proofs.Growing.{Leads}
 use Rattle.cs_code.proofs.args.keep_all.Given as goal
 
--- what is made, and what the rest will make
+-- the code so far, and the code that the rest will add
 abbrev pub invariant-loop-e : goal.invariant-loop-e
 invariant-loop-e l =
     Leads l.initial.ops l.ops (keep_all_code l.next (expressions_of (drop l.e-index l.values)))

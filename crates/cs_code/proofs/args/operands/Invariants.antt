@@ -4,7 +4,7 @@ use Rattle.cs_code.specs.inner.Emitted.{expressions_of, when_of}
 use Rattle.cs_code.proofs.Growing.{Leads}
 use Rattle.cs_code.proofs.args.operands.Given as goal
 
--- what is made, and what the rest will make
+-- the code so far, and the code that the rest will add
 abbrev pub invariant-loop-e : goal.invariant-loop-e
 invariant-loop-e l =
     Leads l.initial.ops l.ops

@@ -5,7 +5,7 @@ use Rattle.cs_words.specs.Catalogue.{row_of}
 use Rattle.cs_code.specs.inner.Emitted.{expressions_of}
 use Rattle.cs_code.proofs.args.parted_values.Given as goal
 
--- what is parted, and what the rest will give
+-- the values divided so far, and the values that the rest will add
 abbrev pub invariant-loop-arg : goal.invariant-loop-arg
 invariant-loop-arg l =
     (l.place ≡ l.arg-index) × (expressions_of l.parted.settled.items

@@ -32,7 +32,7 @@ new-requires-clause-body c =
     (c.deref-2.ensures.value ∙ ap (λ (v : Vec Routine). v.items) c.deref.ensures
     ∙ sym (ap (λ (v : Vec Routine). v.items) c.in_ok-list.ensures)) c.in_ok-made.ensures.is
 
--- the ops of a routine behind the library's own, which it has been lent
+-- the ops of a routine that may invoke the routines of a shared library
 pub returns-clause-ops : goal.returns-clause-ops
 returns-clause-ops c =
     let rs = typed.routines c.args.orc.now.routines.items in

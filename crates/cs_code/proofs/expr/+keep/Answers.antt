@@ -10,7 +10,7 @@ use Rattle.cs_code.proofs.Growing.{grew_three, grew_two, on_any, on_then}
 use Rattle.cs_code.proofs.Nodes.{keeps_parts, kept_whole, parts_code, parts_past}
 use Rattle.cs_code.proofs.expr.+keep.Goals as goal
 
--- what has one part
+-- an expression with one part
 one_part : (at : ℕ) (e : TypedExpr) (a : Box TypedExpr Global) → (e.what ≡ Neg a) ⊎ ((g : Func) × (e.what ≡ Call g a))
     → (parts_code at (expression e) ≡ keep_code at (expression a.value))
     × (parts_past at (expression e) ≡ past at (expression a.value))

@@ -4,7 +4,7 @@ use Rattle.cs_typed.specs.TypedTree as typed
 use Rattle.cs_code.specs.inner.Served.{Serve}
 use Rattle.cs_code.proofs.routines.add_routines.Given as goal
 
--- Routines are made so far, which serve for some, and the rest behind those are all.
+-- The generated routines serve the first ones of the list, and the remaining ones complete it.
 abbrev pub invariant-loop-stmts : goal.invariant-loop-stmts
 invariant-loop-stmts l =
     AreRoutines l.made.items × (length l.made.items ≡ length l.initial.made.items + l.stmts-index)

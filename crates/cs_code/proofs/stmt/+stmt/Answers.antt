@@ -206,7 +206,7 @@ one_arm-returns t c = λ rs serve.
           ∙ ap (λ n. past_block (past_parts n p) (body_of o c.args.arm.now)) c.in_ok-spot.ensures.next,
     ))
 
--- ---- arms of which one is done
+-- ---- arms of which one is performed
 
 pub arms_of-loop-a-preserved : goal.arms_of-loop-a-preserved
 arms_of-loop-a-preserved t c = λ rs serve.
@@ -298,7 +298,7 @@ arm-returns t c = λ rs serve.
           ∙ ap (λ n. past_block (past_parts n p) (body_of o c.args.arm.now)) is.next,
     )
 
--- ---- what is left to do gets less at each call
+-- ---- the remaining weight decreases at each call
 
 pub block-stmt-requires : goal.block-stmt-requires
 block-stmt-requires t c =

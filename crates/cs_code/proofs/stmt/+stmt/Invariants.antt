@@ -9,7 +9,7 @@ use Rattle.cs_code.proofs.Weights.{all_weight, body_weight, list_weight, one_wei
 use Rattle.cs_typed.specs.TypedTree as typed
 use Rattle.cs_code.proofs.stmt.+stmt.Given as goal
 
--- what is made, and what the rest will make
+-- the code so far, and the code that the rest will add
 abbrev pub invariant-block-loop-s : goal.invariant-block-loop-s
 invariant-block-loop-s l =
     (rs : List typed.Block) → Serve l.context.pass l.context.spaces rs (library_of l.initial.ops) l.extents
@@ -41,7 +41,7 @@ invariant-each_arm-loop-a l =
     (each_code o (length (drafted l.initial.ops)) l.fn.p l.arms)
     × (past_list o l.next (drop l.a-index l.arms) ≡ past_list o l.fn.p l.arms)
 
--- how much is left to do
+-- the weight of the remaining statements
 abbrev pub decreases-block : goal.decreases-block
 decreases-block l = 4 * all_weight l.stmts.now + 3
 
