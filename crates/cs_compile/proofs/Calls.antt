@@ -1,4 +1,4 @@
--- The instruments of a piece mean those of its text.
+-- The instruments of a piece mean the instruments of its text.
 use Rattle.std.proofs.Common.{◌≡◌, ℕ, ℤ, pos, Bool, true, false, List, [], ◌∷◌, Option, Some, None, Ok, refl, sym}
 use Rattle.std.proofs.Common.{subst, ap, ◌∙◌, ⊎_elim, if◌then◌else◌}
 use Rattle.std.specs.{List.AllZip, List.Contains, Option.option_map, Ordering.int_eq}
@@ -22,7 +22,7 @@ use Rattle.cs_compile.proofs.Pieces.{made_of, piece_is, steps}
 use Rattle.cs_grammar.specs.Tree as tree
 use Rattle.cs_typed.specs.TypedTree as typed
 
--- THE BODY of a number: it is that of an instrument with this number
+-- THE BODY of a number belongs to an instrument with this number
 
 same_some : {A : Type 0} (a b : A) → Some a ≡ Some b → a ≡ b
 same_some a b e = cc
@@ -98,7 +98,7 @@ bodies_there : (is : List typed.Instrument) (i : typed.Instrument) (n : ℕ) →
     → Contains (bodies is) (n, i.body)
 bodies_there is i n h k = of_each pairs_of is i (n, i.body) h (numbered_there i.body i.numbers n k)
 
--- INSTRUMENTS AS WRITTEN beside those of the piece
+-- INSTRUMENTS AS WRITTEN next to the instruments of the piece
 
 module _ {X Y : Type 0} (R : X → Y → Type 0) where
   zip_left : (xs : List X) (ys : List Y) (y : Y) → AllZip R xs ys → Contains ys y → (x : X) × Contains xs x × R x y

@@ -1,8 +1,8 @@
--- A chain of steps has one answer where each of its steps has.
+-- A chain of steps has at most one result if each of its steps has.
 use Rattle.std.proofs.Common.{◌≡◌, Result, Ok, Err, refl, sym, subst, ◌∙◌}
 use Rattle.cs_compile.specs.Then.{GoesOn, Is, Then}
 
--- a step has no two answers
+-- a step has at most one result
 abbrev pub HasOne : {A E : Type 0} → (Result A E → Type 0) → Type 0
 HasOne {A} {E} P = (r s : Result A E) → P r → P s → r ≡ s
 
@@ -29,7 +29,7 @@ pub refuses : {A B E : Type 0} (P : Result A E → Type 0) (Q : A → Result B E
     → Then P Q (Err e)
 refuses P Q e p = record { first = Err e; first_is = p; after = refl }
 
--- each answer of its first step leads to one of the whole
+-- each result of its first step leads to one of the chain
 pub then_some : {A B E : Type 0} (P : Result A E → Type 0) (Q : A → Result B E → Type 0) (first : Result A E) → P first
     → ((a : A) → P (Ok a) → (r : Result B E) × Q a r) → (r : Result B E) × Then P Q r
 then_some P Q (Ok a) p q = let more = q a p in (more.0, goes_on P Q a more.0 p more.1)

@@ -1,4 +1,4 @@
--- An orchestra that texts mean asks for few notes: an instrument for no more than it may have statements.
+-- An orchestra that texts mean schedules few notes: an instrument no more than it may have statements.
 use Rattle.std.proofs.Common.{◌≡◌, ◌≤◌, ℕ, List, [], ◌∷◌, Ok, sym, subst, arith}
 use Rattle.std.specs.List.{All, AllByRecursion as Each}
 use Rattle.std.proofs.lemmas.List.Elements.{All-contains, All-from_recursion}
@@ -22,7 +22,7 @@ use Rattle.cs_grammar.specs.declared.tree.Callee.TheVariants as callee
 use Rattle.cs_typed.specs.TypedTree as typed
 use Rattle.cs_words.specs.declared.catalogue.Shape.TheVariants as shape
 
--- A STATEMENT asks for one note at most, and what stands in an `if` for one a statement
+-- A STATEMENT schedules at most one note, and an `if` at most one for each of its statements
 
 module _ (spaces : Spaces) where
   call_asks : (r : Rate) (vs : List Variable) (o : Opcode) (sh : Shape) (args : List typed.Argument)

@@ -1,4 +1,4 @@
--- A head is known by its numbers.
+-- A head is determined by its numbers.
 use Rattle.std.proofs.Common.{◌≡◌, ◌≤◌, ◌<ℤ◌, ℕ, ℤ, pos, Ok, Err, ap, sym, subst, ◌∙◌}
 use Rattle.std.proofs.{Math.Bridge.le_prop, Math.Dec.T_prop}
 use lib.Signed.{lt_z}

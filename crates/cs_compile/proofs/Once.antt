@@ -20,7 +20,7 @@ same_fault f g e = same_parts f.line g.line f.kind g.kind e.0 e.1
         → ◌≡◌ {A = OrcFault} (record { line = l; kind = j }) (record { line = m; kind = k })
     same_parts l m j k p q = cc
 
--- what is read has one value or one first fault, where it has one of each and never both
+-- a part is read as one value or one first fault, if there is at most one of each and never both
 pub read_one : {A : Type 0} (V : A → Type 0) (F : ℕ → OrcKind → Type 0) → ((a b : A) → V a → V b → a ≡ b)
     → ((l m : ℕ) (j k : OrcKind) → F l j → F m k → (l ≡ m) × (j ≡ k))
     → ((a : A) (l : ℕ) (k : OrcKind) → V a → F l k → ⊥) → HasOne (IsRead V F)
@@ -34,7 +34,7 @@ read_one V F v f n (Err (why.Limit g)) s h k = absurd h
 read_one V F v f n (Err (why.Csd g)) s h k = absurd h
 read_one V F v f n _ _ h k = absurd k
 
--- a score in a piece with a head has one plot, and a piece one composition
+-- a score in a piece with a head has at most one plot, and a piece one composition
 score_one : (head : Head) (text : Excerpt) → HasOne (score_means head text)
 score_one head text =
     then_one (Is (refused_as why.Score (score_of text))) (λ score. Is (plotted head score))
@@ -49,7 +49,7 @@ plays_one width score o =
 
 module _ (tokens : (text : Excerpt) → HasOne (HasTokens text))
     (trees : (text : Excerpt) (ts : List Token) → HasOne (HasTree text ts)) where
-  -- an orchestra has one typed form
+  -- an orchestra has at most one typed form
   orchestra_one : (text : Excerpt) → HasOne (orchestra_means text)
   orchestra_one text =
       then_one (IsReadAs text) IsTypedAs (then_one (HasTokens text) (HasTree text) (tokens text) (trees text))

@@ -1,4 +1,4 @@
--- What the single steps answer, and how their answers go together.
+-- The results of the single steps, and how they combine.
 use Rattle.std.proofs.Common.{◌≡◌, ◌∙◌, List, Option, Some, None, Result, Ok, Err, IfOk, refl, sym, ap}
 use Rattle.std.specs.{Option.option_or, Result.IsErrAnd}
 use Rattle.cs_base.specs.{Lines.Excerpt, declared.fault.Or.Or, declared.fault.OrcFault.OrcFault}
@@ -22,7 +22,7 @@ use Rattle.cs_base.specs.declared.refusal.Refusal.TheVariants as why
 
 -- RESULTS
 
--- the exit of a `?` gives the refusal that it had
+-- a return by `?` has the refusal of the call
 pub left_with : {A B F : Type 0} (r : Result B (Or F)) (e : Or F) (x : F) → IsErrAnd r (λ y. y ≡ e)
     → r ≡ Err (or.Fault x) → ◌≡◌ {A = Result A (Or F)} (Err e) (Err (or.Fault x))
 left_with (Ok b) e x i h = elim i [ ]
@@ -43,7 +43,7 @@ mistyped t f has = ap (λ x. refused_as why.Orc (judged x (typed_of t))) has
 
 -- SCORES
 
--- a score that passes a limit while it is read
+-- a score that exceeds a limit while it is read
 passed : (r : Result (List ScoreStmt) ScoreFault) (hit : LimitHit) → Passes hit r
     → (statements : List ScoreStmt) × (r ≡ Ok statements) × (limit_of_score statements ≡ Some hit)
 passed (Ok statements) hit p = (statements, refl, p)
@@ -79,7 +79,7 @@ score_passes head text hit p =
     (not_plotted head at.0 hit
     (ap (λ (first : Option LimitHit). option_or first (limit_of_sections head (sections_of at.0))) at.2))
 
--- a score that is refused as it is read
+-- a score that is refused while it is read
 pub score_refused_for : (head : Head) (text : Excerpt) (r : Refusal) → IsRefusedFor r (score_of text)
     → score_means head text (Err r)
 score_refused_for head text (why.Score fault) read = score_refused head text fault read

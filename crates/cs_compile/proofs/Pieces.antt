@@ -1,4 +1,4 @@
--- What a piece is made of that two texts mean.
+-- The parts of a piece that two texts mean.
 use Rattle.std.proofs.Common.{◌≡◌, nat_lt, length, Option, Some, None, Result, Ok, Err, sym, subst, ap, ◌∙◌}
 use Rattle.cs_base.specs.{Lines.Excerpt, Limits.most_of, declared.head.Head.Head, declared.limit.Limit.Limit}
 use Rattle.cs_base.specs.{declared.limit.LimitHit.LimitHit, declared.width.SampleWidth.SampleWidth}
@@ -15,7 +15,7 @@ use Rattle.cs_base.specs.declared.limit.Limit.TheVariants as limit
 use Rattle.cs_grammar.specs.Tree as tree
 use Rattle.cs_typed.specs.TypedTree as typed
 
--- A CHAIN that has a value: so has each of its steps
+-- A CHAIN that has a value: each of its steps has one too
 
 steps_from : {A B E : Type 0} (P : Result A E → Type 0) (Q : A → Result B E → Type 0) (first : Result A E) (b : B)
     → P first

@@ -1,4 +1,5 @@
--- Tables that the events of a plot give under one number have one size, as the statements of its score have.
+-- Tables that the events of a plot define under one number have the same size, because the statements of its
+-- score have.
 use Rattle.std.proofs.Common.{◌≡◌, ℕ, ◌+◌, ℤ, List, [], ◌∷◌, ◌++◌, map, Option, refl, sym}
 use Rattle.std.specs.List.{All, AllByRecursion as Each}
 use Rattle.std.proofs.lemmas.List.Elements.{All-contains, All-from_recursion, recursion_from_All}
@@ -20,12 +21,12 @@ each_parts : {X : Type 0} (P : X → Type 0) (xs ys : List X) → Each P (xs ++ 
 each_parts P [] ys d = (tt, d)
 each_parts P (x ∷ xs) ys d = let parts = each_parts P xs ys d.1 in ((d.0, parts.0), parts.1)
 
--- WHAT HOLDS OF EACH STATEMENT holds of each table that an event gives
+-- WHAT HOLDS FOR EACH STATEMENT holds for each table that an event defines
 
 module _ (P : ScoreWhat → Type 0) (Q : Given → Type 0)
     (gives : (number at : ℕ) (size gen : ℤ) (args : List ℤ) → P (Table number at size gen args)
     → Q (record { number = number; size = size; gen = gen; args = args })) where
-  -- of a turn with its events
+  -- the same for a turn with its events
   turn_each : (set : SectionSetting) (stop : Option ℕ) (at line : ℕ) (w : ScoreWhat) → P w
       → Each Q (given_in (map (λ what. record { cycle = at; line = line; act = what }) (acts_of set stop w)))
   unfolding acts_of
@@ -64,7 +65,7 @@ module _ (P : ScoreWhat → Type 0) (Q : Given → Type 0)
       All-from_recursion Q (given_in (plot_of head score).events)
       (from_each head 0 (sections_of score) (sections_each (λ (s : ScoreStmt). P s.what) score e))
 
--- ANY TWO STATEMENTS of a score are of one size, whichever stands first
+-- ANY TWO STATEMENTS of a score have the same size, whichever comes first
 
 other_way : (v w : ScoreWhat) → IsOneSize w v → IsOneSize v w
 other_way (Table number at size gen args) (Table number' at' size' gen' args') h = λ e. sym (h (sym e))
@@ -74,7 +75,7 @@ same_way : (w : ScoreWhat) → IsOneSize w w
 same_way (Table number at size gen args) = λ e. refl
 same_way _ = tt
 
--- a statement is of one size with all of these
+-- a statement has the same size as all of these
 abbrev Agrees : List ScoreStmt → ScoreWhat → Type 0
 Agrees score w = Each (λ (u : ScoreStmt). IsOneSize w u.what) score
 
@@ -91,7 +92,7 @@ all_agree (s ∷ later) h =
 
 -- THE TABLES of a plot
 
--- a table as a statement would give it
+-- a table as the statement that would define it
 abbrev as_statement : Given → ScoreWhat
 as_statement g = Table g.number 0 g.size g.gen g.args
 

@@ -1,4 +1,4 @@
--- Two small texts, read step by step by the definitions.
+-- Two small texts, read step by step according to the definitions.
 use Rattle.std.proofs.Common.{◌≡◌, ◌∷◌, ◌++◌, ◌+◌, ℕ, true, pos, List, [], codes, None, Result, Ok, Err, refl, ap, sym}
 use Rattle.std.proofs.Common.{subst, arith}
 use Rattle.cs_base.specs.{declared.fault.OrcFault.OrcFault, declared.head.Head.Head, declared.refusal.Refusal.Refusal}
@@ -15,8 +15,8 @@ use Rattle.cs_grammar.specs.Grammar.{ReadsArg, ReadsArgs, ReadsBlock, ReadsExpr,
 use Rattle.cs_grammar.specs.Grammar.{binary, block_end, block_more, fact_alone, list_last, no_more, stmt_assign}
 use Rattle.cs_grammar.specs.Grammar.{stmt_bare}
 use Rattle.cs_grammar.specs.Orchestra.{ReadsInstr, ReadsOrc, Tree, instr, orc_end, orc_header, orc_instr}
-use Rattle.cs_symbols.specs.declared.symbol.Kind.{Kind}
-use Rattle.cs_symbols.specs.Symbols.{Symbol, symbols, next}
+use Rattle.cs_grammar.specs.declared.symbol.Kind.{Kind}
+use Rattle.cs_grammar.specs.Symbols.{Symbol, symbols, next}
 use Rattle.cs_udo.specs.Expanding.{expanding}
 use Rattle.cs_typing.specs.Typing.{typed_of}
 use Rattle.cs_score.specs.{Limits.different, Limits.first_at, Limits.numbers_of, Statements.score_of}
@@ -44,12 +44,12 @@ use Rattle.cs_grammar.specs.Tree as tree
 use Rattle.cs_grammar.specs.declared.expr.Level.TheVariants as level
 use Rattle.cs_grammar.specs.declared.expr.PartForm.TheVariants as part
 use Rattle.cs_grammar.specs.declared.lists.Role.TheVariants as role
-use Rattle.cs_symbols.specs.declared.symbol.Kind.TheVariants as kind
+use Rattle.cs_grammar.specs.declared.symbol.Kind.TheVariants as kind
 use Rattle.cs_grammar.specs.declared.tree.Callee.TheVariants as callee
 use Rattle.cs_typed.specs.TypedTree as typed
 use Rattle.cs_tempo.specs.declared.plot.EventAct.TheVariants as act
 
--- THE TOKENS of the orchestra, and what they are to the grammar
+-- THE TOKENS of the orchestra, and the symbols of the grammar
 
 abbrev tokens : List Token
 tokens = merged true (tokens_after 1 [] (got 40 fourth_field).pieces) ++ end_of (whole_file fourth_field) ∷ []
@@ -63,7 +63,7 @@ symbol line k text = record { kind = k; text = text; line = line }
 abbrev feed : ℕ → Symbol
 feed line = symbol line kind.NewLine (codes "\n")
 
--- what is left from a line on
+-- the rest from a line on
 abbrev stop : List Symbol
 stop = symbol 6 kind.End [] ∷ []
 
@@ -107,7 +107,7 @@ inside = in_instrument []
 none_at : (l : Level) (us : List Symbol) → (next us).kind ≡ kind.NewLine → parts.operator l (Ok us) ≡ None
 none_at l us e = ap (λ (k : Kind). parts.operator_of l k) e
 
--- a symbol alone before the end of a line
+-- a single symbol before the end of a line
 alone : (ts us : List Symbol) (e : tree.Expression) → part_form ts ≡ part.Alone → atom inside ts ≡ Ok (e, us)
     → (next us).kind ≡ kind.NewLine → ReadsExpr inside level.Expr (Ok ts) (Ok (e, us))
 alone ts us e form is ends =
@@ -276,7 +276,7 @@ pub sounds : (width : SampleWidth)
     × (frames_of c ≡ whole 100 ∷ whole 100 ∷ [])
 sounds width = (piece, texts_mean width, refl, heard)
 
--- A REFUSAL for a fault that the tokens of the orchestra have
+-- A REFUSAL because of a fault in the tokens of the orchestra
 
 module _ (width : SampleWidth) (orchestra score : Excerpt) (f : OrcFault)
     (orchestra_short : Ok orchestra ≡ no_longer_than limit.OrchestraBytes orchestra)

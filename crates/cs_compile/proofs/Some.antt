@@ -21,16 +21,16 @@ use Rattle.cs_grammar.specs.Tree as tree
 use Rattle.cs_typed.specs.TypedTree as typed
 use Rattle.cs_base.specs.declared.refusal.Refusal.TheVariants as why
 
--- an answer of which P holds
+-- a result for which P holds
 abbrev pub HasSome : {A E : Type 0} → (Result A E → Type 0) → Type 0
 HasSome {A} {E} P = (r : Result A E) × P r
 
--- what is read has a value or a first fault
+-- a part is read as a value or as a first fault
 pub read_some : {A : Type 0} (V : A → Type 0) (F : ℕ → OrcKind → Type 0)
     → ((a : A) × V a) ⊎ ((l : ℕ) × (k : OrcKind) × F l k) → HasSome (IsRead V F)
 read_some V F = ⊎_elim (λ v. (Ok v.0, v.1)) (λ f. (Err (why.Orc (record { line = f.0; kind = f.1 })), f.2))
 
--- THE HEAD of a typed orchestra is there: its numbers are in their ranges
+-- THE HEAD of a typed orchestra exists: its numbers are in their ranges
 
 earlier_none : (f g : Option OrcFault) → earlier f g ≡ None → f ≡ None
 earlier_none None g h = refl

@@ -1,4 +1,4 @@
--- What the exits of a `?` give where it tells a fault as a refusal, and pieces that are too long.
+-- The result of a return by `?` that turns a fault into a refusal, and pieces that are too long.
 use Rattle.std.proofs.Common.{◌≡◌, ◌≤◌, ◌*◌, Bool, true, false, nat_lt, Some, None, Result, Ok, Err, refl, sym, subst}
 use Rattle.std.proofs.Common.{ap, ◌∙◌, arith}
 use Rattle.std.specs.{Option.option_or, Result.IsErrAnd}
@@ -16,7 +16,7 @@ use Rattle.cs_base.specs.declared.limit.Limit.TheVariants as limit
 use Rattle.cs_base.specs.declared.refusal.Refusal.TheVariants as why
 use Rattle.cs_typed.specs.TypedTree as typed
 
--- what holds of the refusal that a fault is told as holds of the one that leaves
+-- what holds for the refusal of a fault holds for the refusal that is returned
 pub told : {A F : Type 0} (k : F → Refusal) (Q : Refusal → Type 0) (r : Result A (Or Refusal)) (e : Or F)
     → IsErrAnd r (λ y. y ≡ or_by k e)
     → ((f : F) → e ≡ or.Fault f → Q (k f)) → (w : Refusal) → r ≡ Err (or.Fault w) → Q w

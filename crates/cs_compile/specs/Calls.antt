@@ -1,5 +1,5 @@
--- What calls of defined opcodes in an orchestra's text mean for the piece: each of its instruments does what one of the
--- text does whose calls have frames of their own.
+-- What calls of user-defined opcodes in an orchestra's text mean for the piece: each instrument of the piece
+-- does what the one in the text does, where each call has its own frame.
 use Rattle.std.specs.{Prelude.ℕ, Prelude.ℤ, Prelude.pos, Prelude.◌≡◌, Prelude.Ok, Prelude.Some, List.Contains}
 use Rattle.cs_base.specs.{Lines.Excerpt, declared.spaces.Spaces.Spaces}
 use Rattle.cs_compile.specs.Meaning.{IsReadAs}
@@ -11,8 +11,9 @@ use Rattle.cs_udo.specs.Expanding.{expanding}
 use Rattle.cs_udo_meaning.specs.{Lives.MeansFrames, Typed.shared_of}
 use Rattle.cs_typed.specs.TypedTree as typed
 
--- These statements mean an instrument of this number, as an orchestra was written: in worlds of states W they do what
--- it does with a frame for each place of a call, where the names that notes share have their places in `shared`.
+-- These statements mean the instrument with this number, as an orchestra was written: in worlds with states W
+-- they do what it does with a separate frame for each place of a call, where `shared` says the places of the
+-- names that notes share.
 pub record MeansInstrument (W : Type 0) (o : Orchestra) (shared : Shared) (spaces : Spaces) (number : ℕ) (body : Block)
     : Type 0 where
   pub written : Instrument
@@ -22,9 +23,9 @@ pub record MeansInstrument (W : Type 0) (o : Orchestra) (shared : Shared) (space
   pub body_is : body ≡ core spaces made.body
   pub means : MeansFrames W o.opcodes shared written made
 
--- The text was read as an orchestra. Each number of its instruments has statements in the piece, and what the piece has
--- under a number means the instrument of that number. The names that notes share, which no expansion changes, have the
--- places at which the expanded text gives them.
+-- The text was read as an orchestra. For each number of its instruments the piece has statements, and the
+-- statements that the piece has for a number mean the instrument with that number. The names that notes
+-- share, which no expansion changes, have the places that they have in the expanded text.
 pub record MeansCalls (W : Type 0) (text : Excerpt) (c : Composition) : Type 0 where
   pub orchestra : Orchestra
   pub read : IsReadAs text (Ok orchestra)

@@ -1,4 +1,5 @@
-// What holds of the meaning of every two texts: calls that do nothing, whose contracts are the laws.
+// What holds for the meaning of every two texts: calls that do nothing as they run, whose contracts are the
+// laws.
 ghost use Rattle.std.specs.Prelude.{◌≡◌, Result, Ok};
 ghost use Rattle.cs_base.specs.{Lines.Excerpt, declared.head.Head.Head, declared.refusal.Refusal.Refusal};
 ghost use Rattle.cs_base.specs.declared.width.SampleWidth.{SampleWidth};
@@ -10,8 +11,8 @@ use cs_grammar::{one_reading as one_tree, trees_are_well_formed};
 use cs_lex::one_reading as one_list_of_tokens;
 use cs_udo_meaning::expansion_means_calls;
 
-/// Every two texts have one meaning, in samples of either width: one composition, whose header has its numbers in the
-/// ranges of a head, or one first refusal.
+/// For the prover: two texts always have exactly one meaning, for samples of either width: one composition,
+/// whose header has its numbers in the ranges of a head, or one first refusal.
 pub fn texts_have_one_meaning()
     ensures some { (width : SampleWidth) (orchestra score : Excerpt)
         → (r : Result Composition Refusal) × means width orchestra score r }
@@ -24,9 +25,10 @@ pub fn texts_have_one_meaning()
     one_tree();
 }
 
-/// Where two texts mean a piece, each of its instruments means the one of that number in the orchestra's text, whose
-/// calls of defined opcodes have frames of their own: as a note begins and in every control cycle the statements of
-/// the piece do what that instrument does (`MeansFrames` of cs_udo_meaning), in every world with states `W`.
+/// For the prover: if two texts mean a piece, each instrument of the piece means the one with its number in
+/// the orchestra's text, where each call of a user-defined opcode has its own frame. As a note begins and in
+/// every control cycle the statements of the piece do what that instrument does (`MeansFrames` of
+/// cs_udo_meaning), in every world with states `W`.
 pub fn pieces_mean_their_calls<W>()
     ensures { (width : SampleWidth) (orchestra score : Excerpt) (c : Composition)
         → means width orchestra score (Ok c) → MeansCalls W orchestra c }

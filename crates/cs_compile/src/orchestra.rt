@@ -23,8 +23,8 @@ use cs_udo::Expansion;
 use cs_udo_meaning::expansions_can_be_lowered;
 use std::alloc::Global;
 
-/// The typed orchestra that a text of at most 1,048,576 bytes means, or its first refusal by itself, with its line in
-/// the file.
+/// Returns the typed orchestra that a text of at most 1,048,576 bytes means, or its first refusal without
+/// regard to a score, with its line in the file.
 pub fn read_orchestra(alloc: Global, text: &Excerpt) -> Result<TypedOrc, Or<Refusal>>
     requires { length text.now.bytes ≤ most_orchestra_bytes }
     ensures orchestra { IfOk result (λ o. orchestra_means text.now (Ok (typed.orchestra o))) }
@@ -38,7 +38,7 @@ pub fn read_orchestra(alloc: Global, text: &Excerpt) -> Result<TypedOrc, Or<Refu
     typed_tree(alloc, tree)
 }
 
-// The tree of a text, or the refusal of its first fault.
+// Returns the tree of a text, or the refusal of its first fault.
 fn read_tree(alloc: Global, text: &Excerpt) -> Result<Orc, Or<Refusal>>
     requires { length text.now.bytes ≤ most_orchestra_bytes }
     ensures tree { IfOk result (λ orc. IsReadAs text.now (Ok (tree.orchestra orc))) }
@@ -51,8 +51,8 @@ fn read_tree(alloc: Global, text: &Excerpt) -> Result<Orc, Or<Refusal>>
     Ok(tree)
 }
 
-// The typed form of a tree, its calls of defined opcodes expanded, or the refusal of its first broken rule of rates and
-// names.
+// Returns the typed form of a tree whose calls of user-defined opcodes are expanded, or the refusal of the
+// first broken rule of rates and names.
 fn typed_tree(alloc: Global, orc: Orc) -> Result<TypedOrc, Or<Refusal>>
     requires { IsWellFormed (tree.orchestra orc) }
     ensures typed { IfOk result (λ o. IsTypedAs (tree.orchestra orc) (Ok (typed.orchestra o))) }

@@ -24,8 +24,8 @@ use cs_tempo::Plot;
 use cs_typed::TypedOrc;
 use std::alloc::Global;
 
-/// All that the piece of two texts needs to be performed, in samples of this width; or the first refusal of the
-/// texts, with its line in the file. A setup's samples fit a sound file.
+/// Returns everything that the piece of two texts needs to be performed, in samples of width `width`, or the
+/// first refusal of the texts, with its line in the file. A setup's samples fit into a sound file.
 pub fn compile(
     alloc: Global,
     orchestra: &Excerpt,
@@ -35,7 +35,7 @@ pub fn compile(
     ensures accepted { IfOk result (λ s. means width orchestra.now score.now (Ok (composition_of s))) }
     ensures fits { IfOk result (λ s. size_of width
         (s.plot.cycles * s.orchestra.head.ksmps) s.orchestra.head ≤ most_wav_bytes) }
-    // Out of memory alone has no clause.
+    // Only out of memory has no clause.
     ensures refused { (r : Refusal) → result ≡ Err (or.Fault r) → means width orchestra.now score.now (Err r) }
 {
     if orchestra.bytes().len() > MOST_ORCHESTRA_BYTES {
@@ -47,7 +47,7 @@ pub fn compile(
     compile_short(alloc, orchestra, score, width)
 }
 
-// The same of texts that are not too long.
+// Does the same for texts that are not too long.
 fn compile_short(
     alloc: Global,
     orchestra: &Excerpt,
@@ -67,7 +67,8 @@ fn compile_short(
     prepared(alloc, typed, plot, width)
 }
 
-// What an orchestra and a plot need to be performed, or the refusal of the first limit that they pass together.
+// Returns what an orchestra and a plot need to be performed, or the refusal of the first limit that they
+// exceed together.
 fn prepared(
     alloc: Global,
     orchestra: TypedOrc,
@@ -95,7 +96,7 @@ fn prepared(
     Ok(setup)
 }
 
-// Whether the samples of a piece have more bytes than a sound file may have.
+// Returns whether the samples of a piece have more bytes than a sound file may have.
 fn is_too_long(width: SampleWidth, head: &Head, cycles: u32) -> bool
     ensures { result ≡ is_too_long width head.now cycles }
 {

@@ -12,7 +12,8 @@ use cs_score::{read_score, tables_keep_one_size};
 use cs_tempo::{Plot, schedule};
 use std::alloc::Global;
 
-/// The plot that a text of at most 4,194,304 bytes means in a piece with this head, or its first refusal.
+/// Returns the plot that a text of at most 4,194,304 bytes means in a piece with this head, or its first
+/// refusal.
 pub fn read_plot(alloc: Global, text: &Excerpt, head: &Head) -> Result<Plot, Or<Refusal>>
     requires { length text.now.bytes ≤ most_score_bytes }
     ensures plot { IfOk result (λ plot. score_means head.now text.now (Ok plot)) }

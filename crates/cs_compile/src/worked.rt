@@ -1,4 +1,4 @@
-// Texts worked out by hand: a call that does nothing, whose contract is the examples.
+// Texts worked out by hand: a call that does nothing as it runs, whose contract is the examples.
 ghost use Rattle.std.specs.Prelude.{◌≡◌, [], ◌∷◌, Ok, Err};
 ghost use Rattle.cs_base.specs.Lines.{excerpt, whole_file};
 ghost use Rattle.cs_base.specs.declared.fault.OrcKind.TheVariants as orc;
@@ -8,8 +8,9 @@ ghost use Rattle.cs_compile.specs.Meaning.{means};
 ghost use Rattle.cs_compile.specs.Worked.{fourth_field, note_of_100, stray_byte, whole};
 ghost use Rattle.cs_piece_meaning.specs.{Heard.frames_of, Moments.Composition};
 
-/// A note of a quarter of a second, at eight frames a second, is two frames of its fourth field; and an orchestra is
-/// refused for a byte that begins no token, with its line in the file, before its score is looked at.
+/// For the prover: a note of a quarter of a second, at eight frames a second, is two frames of its fourth
+/// field; and an orchestra is refused because of a byte that begins no token, with its line in the file,
+/// before its score is read.
 pub fn texts_worked_by_hand()
     ensures sound { (width : SampleWidth) → (c : Composition)
         × means width (whole_file fourth_field) (whole_file note_of_100) (Ok c)

@@ -1,4 +1,4 @@
--- The layout of a piece has what the piece has.
+-- The layout of a piece has an area for each resource of the piece.
 use Rattle.std.proofs.Common.{◌≡◌, ℕ, zero, suc, ◌+◌, ◌<◌, ◌==◌, ◌||◌, ◌&&◌, Bool, true, false, List, [], ◌∷◌, ◌++◌}
 use Rattle.std.proofs.Common.{length, map, take, nat_lt, nat_le, arith, ap, sym, ◌∙◌, refl, subst, slice_get, Option}
 use Rattle.std.proofs.{Common.Some, Common.None, Math.Bool.or-false}
@@ -23,7 +23,7 @@ use Rattle.cs_typed.specs.TypedTree.{SharedNames}
 use Rattle.cs_base.specs.declared.resource.Res.TheVariants as res
 use Rattle.cs_layout.specs.declared.areas.GroupKind.TheVariants as kind
 
--- each resource has its area at its own position
+-- each resource has an area at its own position
 record IsAreaAt (ksmps : ℕ) (names : SharedNames) (spaces : Spaces) (live : List LiveTable) (p : ℕ) (area : Area) : Type
     0 where
   place : p ≡ position ksmps names spaces live area.res
@@ -77,7 +77,7 @@ one_from : (kind : ℕ → Res) (g : Res) (k a count cells : ℕ) → ((n : ℕ)
 one_from kind g k a zero cells h = grind (arith, nat_tests)
 one_from kind g k a (suc count) cells h = rw (h a, one_from kind g k (a + 1) count cells h) (grind (arith, nat_tests))
 
--- the number of a resource of a kind, where it is of the kind
+-- the number of a resource, if it is of the kind
 abbrev number_in : GroupKind → Res → Option ℕ
 number_in kind.Gi (res.Gi n) = Some n
 number_in kind.Gk (res.Gk n) = Some n
@@ -106,7 +106,7 @@ by_number kind.ZakK n (res.ZakK m) = refl
 by_number kind.ZakA n (res.ZakA m) = refl
 by_number x n g = refl
 
--- a resource is in a group where its number is one of the group's
+-- a resource is in a group if its number is one of the group's
 in_group : (x : GroupKind) (count cells : ℕ) (g : Res)
     → any_of g (numbered (res_of x) count cells) ≡ number_within (number_in x g) count
 in_group x count cells g = by (number_in x g) (λ n. by_number x n g)
@@ -116,7 +116,7 @@ in_group x count cells g = by (number_in x g) (λ n. by_number x n g)
     by None h = none_from (res_of x) g 0 count cells h
     by (Some k) h = one_from (res_of x) g k 0 count cells h ∙ grind (arith, nat_tests)
 
--- a group, and what comes behind it
+-- a group, and the resources after it
 group_then : (x : GroupKind) (count cells : ℕ) (ys : List SharedCells) (g : Res) (b : Bool) → any_of g ys ≡ b
     → any_of g (numbered (res_of x) count cells ++ ys) ≡ (number_within (number_in x g) count || b)
 group_then x count cells ys g b e =
@@ -140,7 +140,7 @@ among_tables : (g : Res) (live : List LiveTable) → any_of g (of_tables live) �
 among_tables (res.Table n) live = one_table n live
 among_tables g live = no_table g live (λ n. refl)
 
--- a resource is among what is shared exactly where the piece has it
+-- a resource is shared if and only if the piece has it
 module _ (ksmps : ℕ) (names : SharedNames) (spaces : Spaces) (live : List LiveTable) where
   by_groups : (g : Res) → any_of g (shared_by ksmps names spaces live)
       ≡ (number_within (number_in kind.Gi g) (length names.variables.init)
@@ -166,7 +166,7 @@ module _ (ksmps : ℕ) (names : SharedNames) (spaces : Spaces) (live : List Live
   pub there : (g : Res) → is_some (area_of (areas_of ksmps names spaces live) g) ≡ is_shared names spaces live g
   there g = is_there 0 (shared_by ksmps names spaces live) g ∙ shared_is g
 
--- a table's area makes it one of the layout's
+-- if a table has an area, it is one of the layout's tables
 among_areas : (areas : List Area) (p n : ℕ) (area : Area) → slice_get areas p ≡ Some area → area.res ≡ res.Table n
     → list_any (λ m. n == m) (filter_map (λ a. table_number a.res) areas) ≡ true
 among_areas [] p n area e h = absurd (cc (e))

@@ -1,4 +1,4 @@
--- How many places of each zak space there are.
+-- The number of places in each zak space.
 use Rattle.std.proofs.Common.{◌≡◌, ℕ, zero, suc, ◌+◌, Bool, true, false, List, [], ◌∷◌, ◌++◌, length, map, count_by}
 use Rattle.std.proofs.Common.{arith, ap, sym, ◌∙◌, refl, if◌then◌else◌}
 use Rattle.std.specs.List.{range_with_len}

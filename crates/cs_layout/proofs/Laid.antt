@@ -1,4 +1,4 @@
--- Areas one behind the other.
+-- Areas one after the other.
 use Rattle.std.proofs.Common.{◌≡◌, ℕ, zero, suc, ◌+◌, List, [], ◌∷◌, length, take, sum_by, arith, ap, sym, ◌∙◌, refl}
 use Rattle.std.proofs.Common.{slice_get, Some}
 use Rattle.std.specs.{List.list_any, Option.is_some}
@@ -12,7 +12,7 @@ use Rattle.cs_voice_meaning.specs.Placing.{area_of}
 abbrev pub laid : ℕ → SharedCells → Area
 laid first s = record { res = s.res; first = first; length = s.cells }
 
--- an area is that of what is shared at its place
+-- an area belongs to the shared resource with its index
 pub record IsLaidAt (first : ℕ) (ss : List SharedCells) (p : ℕ) (area : Area) : Type 0 where
   pub what : SharedCells
   pub there : slice_get ss p ≡ Some what
@@ -59,13 +59,13 @@ words-laid first (s ∷ ss) =
     ∙ ap (λ n. s.cells + n) (words-laid (first + s.cells) ss)
     ∙ sym (sum_by-cons (λ x. x.cells) s ss)
 
--- an area of a resource is there exactly where the resource is shared
+-- a resource has an area if and only if it is shared
 pub is_there : (first : ℕ) (ss : List SharedCells) (g : Res)
     → is_some (area_of (laid_from first ss) g) ≡ list_any (λ s. same_res s.res g) ss
 is_there first [] g = refl
 is_there first (s ∷ ss) g = by_test (same_res s.res g) (λ h. rw h refl) (λ h. rw h (is_there (first + s.cells) ss g))
 
--- the area that is found stands at some place
+-- the area that is found is at some index
 pub record IsFoundAt (areas : List Area) (g : Res) (area : Area) : Type 0 where
   pub place : ℕ
   pub there : slice_get areas place ≡ Some area

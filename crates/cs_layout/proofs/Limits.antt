@@ -1,4 +1,4 @@
--- Which limit areas pass.
+-- The limits that areas exceed.
 use Rattle.std.proofs.Common.{◌≡◌, ◌<◌, ◌≤◌, true, false, List, length, nat_lt, Option, Some, None, Result, Err, IfSome}
 use Rattle.std.proofs.Common.{if◌then◌else◌, sym, subst, ◌∙◌, ap, arith}
 use Rattle.std.proofs.lemmas.Bool.Decides.{nat_tests}
@@ -38,7 +38,7 @@ none_passed areas few short =
     a
     ∙ ap (λ x. if x then Some hit_words else None) b
 
--- the answer tells the limit
+-- the result contains the limit
 pub limit_told : (T : Type 0) (o : Option LimitHit) (h : LimitHit) (r : Or LimitHit) → o ≡ Some h → r ≡ or.Fault h
     → IfSome o (λ k. ◌≡◌ {A = Result T (Or LimitHit)} (Err r) (Err (or.Fault k)))
 limit_told T o h r is told =

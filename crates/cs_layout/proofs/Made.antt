@@ -17,7 +17,7 @@ use Rattle.cs_base.specs.declared.resource.Res.TheVariants as res
 abbrev pub cells_in : List SharedCells → ℕ
 cells_in ss = sum_by (λ s. s.cells) ss
 
--- what is behind comes behind
+-- later resources get later areas
 pub laid-append : (first : ℕ) (xs ys : List SharedCells)
     → laid_from first (xs ++ ys) ≡ laid_from first xs ++ laid_from (first + cells_in xs) ys
 laid-append first [] ys = ap (λ n. laid_from n ys) (let same : first ≡ first + 0 = omega arith in same)
@@ -27,7 +27,7 @@ laid-append first (x ∷ xs) ys =
     (let same : first + x.cells + cells_in xs ≡ first + cells_in (x ∷ xs) =
     omega (arith, sum_by-cons (λ s. s.cells) x xs) in same))
 
--- the groups, one behind the other, are what is shared
+-- the groups, one after the other, are what is shared
 behind : (gs : List Group) (ys : List SharedCells) (g : Group)
     → flat_map members (g ∷ gs) ++ ys ≡ members g ++ (flat_map members gs ++ ys)
 behind gs ys g = append_assoc (members g) (flat_map members gs) ys
@@ -44,7 +44,7 @@ groups_are ksmps names spaces live = joined (groups_of ksmps names spaces) (of_t
     joined [] ys = refl
     joined (g ∷ gs) ys = behind gs ys g ∙ ap (λ zs. members g ++ zs) (joined gs ys)
 
--- resources of a kind: how many cells they have, and one more of them
+-- resources of a kind: the number of their cells, and one more resource
 from_cells : (kind : ℕ → Res) (cells a n : ℕ)
     → cells_in (map (λ k. record { res = kind k; cells = cells }) (range_with_len a n)) ≡ n * cells
 from_cells kind cells a zero = let none : 0 ≡ 0 * cells = omega arith in none
@@ -86,7 +86,7 @@ one_pushed old areas more kind first n cells next was at is =
     ∙ sym (laid-append first (numbered kind n cells) (record { res = kind n; cells = cells } ∷ []))
     ∙ ap (laid_from first) (sym (numbered_more kind n cells)))
 
--- groups and tables: how many resources and cells there are, and one more of them
+-- groups and tables: the numbers of their resources and cells, and one more of them
 group_cells : (gs : List Group) → cells_in (flat_map members gs) ≡ sum_by (λ g. g.count * g.cells) gs
 group_cells [] = refl
 group_cells (g ∷ gs) =
@@ -153,7 +153,7 @@ table_pushed areas more gs live i d next low was at is =
     (sym (ap of_tables (take_more live i d low)
     ∙ map-append (λ t. record { res = res.Table t.number; cells = t.size }) (take i live) (get_or live i d ∷ []))))
 
--- what was made is the piece's areas, and how many these are
+-- what was made is the piece's areas, and their number
 module _ (ksmps : ℕ) (names : SharedNames) (spaces : Spaces) (live : List LiveTable) (gs : List Group)
     (are : gs ≡ groups_of ksmps names spaces) where
   pub made_are : (made : List Area) → made ≡ laid_from 0 (flat_map members gs ++ of_tables live)

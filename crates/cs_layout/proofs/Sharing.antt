@@ -1,4 +1,4 @@
--- What is shared, by its place.
+-- What is shared, by its index.
 use Rattle.std.proofs.Common.{◌≡◌, ℕ, zero, suc, ◌+◌, true, false, List, [], ◌∷◌, ◌++◌, ◌==◌, length, map, arith, ap}
 use Rattle.std.proofs.Common.{sym, ◌∙◌, refl, subst, slice_get, Some, if◌then◌else◌}
 use Rattle.std.specs.List.{range_with_len}
@@ -15,7 +15,7 @@ use Rattle.cs_typed.specs.TypedTree.{SharedNames}
 use Rattle.cs_base.specs.declared.resource.Rate.TheVariants as rate
 use Rattle.cs_base.specs.declared.resource.Res.TheVariants as res
 
--- what holds at each place of two lists, one behind the other
+-- what holds at each index of two joined lists
 at_append : (P : ℕ → SharedCells → Type 0) (xs ys : List SharedCells)
     → ((p : ℕ) (s : SharedCells) → slice_get xs p ≡ Some s → P p s)
     → ((p : ℕ) (s : SharedCells) → slice_get ys p ≡ Some s → P (length xs + p) s) → (p : ℕ) (s : SharedCells)
@@ -27,7 +27,7 @@ at_append P (x ∷ xs) ys front back (suc p) s e =
     (λ q t f. subst (λ n. P n t) (let same : length (x ∷ xs) + q ≡ suc (length xs + q) = omega arith in same)
     (back q t f)) p s e
 
--- a resource of a kind, by its number
+-- resource number n of a kind
 abbrev of_kind : (ℕ → Res) → ℕ → ℕ → SharedCells
 of_kind kind cells n = record { res = kind n; cells = cells }
 
@@ -38,7 +38,7 @@ shared_from kind a (suc count) cells zero s e = ap (of_kind kind cells) (omega a
 shared_from kind a (suc count) cells (suc p) s e =
     ap (of_kind kind cells) (omega arith) ∙ shared_from kind (a + 1) count cells p s e
 
--- what holds of each resource of a kind and of what comes behind them
+-- what holds for each resource of a kind and for those after them
 group_then : (P : ℕ → SharedCells → Type 0) (kind : ℕ → Res) (count cells : ℕ) (ys : List SharedCells)
     → ((n : ℕ) → P n (of_kind kind cells n))
     → ((p : ℕ) (s : SharedCells) → slice_get ys p ≡ Some s → P (count + p) s) → (p : ℕ) (s : SharedCells)
@@ -49,7 +49,7 @@ group_then P kind count cells ys front back =
     ∙ shared_from kind 0 count cells p s e) (front p))
     (λ p s e. subst (λ n. P (n + p) s) (sym (length-map-range_with_len (of_kind kind cells) 0 count)) (back p s e))
 
--- the place of a live table among them
+-- the index of a live table
 abbrev pub place_among : List LiveTable → ℕ → ℕ
 place_among [] n = 0
 place_among (t ∷ ts) n = if t.number == n then 0 else suc (place_among ts n)
@@ -75,7 +75,7 @@ among_is (u ∷ live) n (suc p) t e h =
     let more = among_is live n p t e h in by_test (u.number == n) (λ k. among_here u live n k)
     (λ k. among_later u live n k more)
 
--- a table's place
+-- the table at an index
 table_at : (live : List LiveTable) (p : ℕ) (s : SharedCells) → slice_get (of_tables live) p ≡ Some s
     → (t : LiveTable) × (slice_get live p ≡ Some t) × (s ≡ record { res = res.Table t.number; cells = t.size })
 table_at [] p s e = absurd (cc (e))
@@ -97,9 +97,9 @@ size_of_table live apart p t n q size e r l =
     let here = sym e ∙ ap (slice_get live) same ∙ l in
     ap (λ u. u.size) (some_is t (record { number = n; size = size }) here)
 
--- where a resource stands among all
+-- the index of a resource among all
 module _ (ksmps : ℕ) (names : SharedNames) (spaces : Spaces) (live : List LiveTable) where
-  -- how many global variables of a rate there are
+  -- the number of global variables of a rate
   abbrev variables : Rate → ℕ
   variables r = length (at_rate names.variables r)
 

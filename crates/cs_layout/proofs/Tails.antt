@@ -1,4 +1,4 @@
--- What is shared from each kind of resource on.
+-- The resources from each kind on.
 use Rattle.std.proofs.Common.{ℕ, List, ◌++◌, length}
 use Rattle.cs_base.specs.declared.resource.Res.TheVariants as res
 use Rattle.cs_base.specs.declared.spaces.Spaces.{Spaces}

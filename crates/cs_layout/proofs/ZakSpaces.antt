@@ -12,7 +12,7 @@ use Rattle.cs_layout.proofs.{Complete.there, Counted.spaces_are}
 use Rattle.cs_base.specs.declared.resource.Res.TheVariants as res
 use Rattle.cs_words.specs.declared.catalogue.Space.TheVariants as space
 
--- each place of a space has its area, and no other has
+-- each place of a space has an area, and no other place has one
 pub are_spaces : (ksmps : ℕ) (names : SharedNames) (spaces : Spaces) (live : List LiveTable) (s : Space) (n : ℕ)
     → is_some (area_of (areas_of ksmps names spaces live) (zak_place s n))
     ≡ nat_lt n (places_of (spaces_of (areas_of ksmps names spaces live)) s)

@@ -1,4 +1,4 @@
--- Which cells a piece has: those of its variables, channels, zak places and live tables, one behind the other.
+-- The cells of a piece: its variables, channels, zak places and live tables, one after the other.
 use Rattle.std.specs.Prelude.{ℕ, ℤ, ◌≡◌, ◌+◌, ◌==◌, Bool, true, nat_lt, List, [], ◌∷◌, ◌++◌, length, map, slice_get}
 use Rattle.std.specs.{Prelude.Some, Prelude.None, List.list_any, List.range_with_len}
 use Rattle.cs_base.specs.{declared.resource.Res.Res, declared.spaces.Spaces.Spaces}
@@ -9,7 +9,7 @@ use Rattle.cs_typed.specs.TypedTree.{SharedNames}
 use Rattle.cs_voice_meaning.specs.Placing.{IsLiveTable}
 use Rattle.cs_base.specs.declared.resource.Res.TheVariants as res
 
--- what notes share: a resource, and how many cells it has
+-- a resource that notes share, and the number of its cells
 pub record SharedCells : Type 0 where
   pub res : Res
   pub cells : ℕ
@@ -18,12 +18,12 @@ pub record SharedCells : Type 0 where
 abbrev pub numbered : (ℕ → Res) → ℕ → ℕ → List SharedCells
 numbered kind count cells = map (λ n. record { res = kind n; cells = cells }) (range_with_len 0 count)
 
--- the live tables, a cell a point
+-- the live tables, with a cell for each point
 abbrev pub of_tables : List LiveTable → List SharedCells
 of_tables live = map (λ t. record { res = res.Table t.number; cells = t.size }) live
 
--- What a piece's notes share: variables of the rates i, k and a, channels of control values and of sounds, zak places
--- of both spaces, live tables. What is a sound has a cell for each frame of a control cycle.
+-- Everything that a piece's notes share: i-rate, k-rate and a-rate variables, control and audio channels, zak
+-- places of both spaces, live tables. An audio resource has a cell for each frame of a control cycle.
 abbrev pub shared_by : ℕ → SharedNames → Spaces → List LiveTable → List SharedCells
 shared_by ksmps names spaces live =
     numbered res.Gi (length names.variables.init) 1
@@ -35,7 +35,7 @@ shared_by ksmps names spaces live =
     ++ (numbered res.ZakA spaces.audio ksmps
     ++ of_tables live))))))
 
--- the areas of what is shared, one behind the other, from an address on
+-- the areas of what is shared, one after the other, from address `first` on
 abbrev pub laid_from : ℕ → List SharedCells → List Area
 laid_from first [] = []
 laid_from first (s ∷ rest) = record { res = s.res; first = first; length = s.cells } ∷ laid_from (first + s.cells) rest
@@ -44,7 +44,7 @@ laid_from first (s ∷ rest) = record { res = s.res; first = first; length = s.c
 abbrev pub areas_of : ℕ → SharedNames → Spaces → List LiveTable → List Area
 areas_of ksmps names spaces live = laid_from 0 (shared_by ksmps names spaces live)
 
--- no two live tables have one number
+-- no two live tables have the same number
 abbrev pub AreApart : List LiveTable → Type 0
 AreApart live = (p q : ℕ) (t u : LiveTable) → slice_get live p ≡ Some t → slice_get live q ≡ Some u
     → t.number ≡ u.number → p ≡ q
@@ -60,14 +60,14 @@ is_shared names spaces live (res.ZakK n) = nat_lt n spaces.control
 is_shared names spaces live (res.ZakA n) = nat_lt n spaces.audio
 is_shared names spaces live (res.Table n) = list_any (λ t. t.number == n) live
 
--- A table that notes may write is one of these, with its size.
+-- the live tables contain this table, with its size
 abbrev pub IsLive : List LiveTable → Table → Type 0
 IsLive live t = (place : ℕ) × (slice_get live place ≡ Some (record { number = t.number; size = t.size }))
 
--- so are all of a piece's tables that aren't frozen
+-- the live tables contain each of a piece's tables that isn't frozen
 abbrev pub AreLive : List LiveTable → List Table → Type 0
 AreLive live tables = (number : ℤ) (t : Table) → find_table tables number ≡ Some t → t.frozen ≡ None → IsLive live t
 
--- and each of these is a table of the piece that notes may write
+-- each of the live tables is a table of the piece that notes may write
 abbrev pub AreOfPiece : List LiveTable → List Table → Type 0
 AreOfPiece live tables = (n : ℕ) → list_any (λ t. t.number == n) live ≡ true → IsLiveTable tables n

@@ -13,17 +13,17 @@ use cs_cells::{Area, Layout};
 use cs_typed::Globals;
 use std::alloc::Global;
 
-/// A table whose points are cells, since notes may write it or the score gives it again.
+/// A table whose points are cells, because notes may write it or the score defines it again.
 #[derive(Clone, Copy)]
 pub struct LiveTable {
     pub number: usize,
-    /// How many points it has.
+    /// The number of points.
     pub size: u32,
 }
 
-/// The layout of a piece with `ksmps` frames a control cycle, these variables and channels, zak spaces and live
-/// tables, no two of one number. More areas than 4,096 pass the limit on resources, and then more cells than 65,536
-/// that on words, at line 0.
+/// Returns the layout of a piece with `ksmps` frames in a control cycle, these variables and channels, zak
+/// spaces and live tables; no two tables have the same number. More than 4,096 areas are a limit error of
+/// resources, and otherwise more than 65,536 cells are one of words, both at line 0.
 pub fn layout(
     alloc: Global,
     ksmps: u32,
@@ -35,7 +35,7 @@ pub fn layout(
     ensures areas { IfOk result (λ l. l ≡ areas_of ksmps (shared_names globals.now) spaces live.now) }
     ensures limit { IfSome (limit_passed (areas_of ksmps (shared_names globals.now)
         spaces live.now)) (λ h. result ≡ Err (or.Fault h)) }
-    // Within the limits the one error is out of memory.
+    // Within the limits the only error is out of memory.
     ensures memory { IfNone (limit_passed (areas_of ksmps (shared_names globals.now)
         spaces live.now)) (IfErr result (λ e. e ≡ or.OutOfMemory)) }
 {
@@ -50,7 +50,7 @@ pub fn layout(
     Layout::build(alloc, &areas)
 }
 
-// What is numbered from 0 in a piece.
+// Resources that are numbered from 0 in a piece.
 #[derive(Clone, Copy)]
 enum GroupKind {
     Gi,
@@ -106,7 +106,7 @@ fn many(kind: GroupKind, count: usize, cells: u32) -> Group
     Group { kind, count, cells }
 }
 
-// How many resources there are.
+// Returns the number of resources.
 fn count_of(groups: &[Group], live: &[LiveTable]) -> u128
     requires { length groups.now ≤ 7 }
     ensures { result ≡ sum_by (λ g. g.count) groups.now + length live.now }
@@ -118,7 +118,7 @@ fn count_of(groups: &[Group], live: &[LiveTable]) -> u128
     count
 }
 
-// How many cells they have together.
+// Returns the number of cells of all resources.
 fn words_of(groups: &[Group], live: &[LiveTable]) -> u128
     requires groups { length groups.now ≤ 7 }
     requires few { sum_by (λ g. g.count) groups.now + length live.now ≤ most_resources }
@@ -134,7 +134,7 @@ fn words_of(groups: &[Group], live: &[LiveTable]) -> u128
     words
 }
 
-// How many cells a group has.
+// Returns the number of cells of a group.
 fn cells_of(group: Group) -> u128
     ensures value { result ≡ group.count * group.cells }
     ensures bounded { result < 2 ^ 96 }
@@ -166,7 +166,7 @@ fn areas_of(alloc: Global, groups: &[Group], live: &[LiveTable]) -> Result<Vec<A
     Ok(areas)
 }
 
-// The areas of a group, from an address on.
+// Appends the areas of a group; the first one starts at address `first`.
 fn push_group(areas: &mut Vec<Area>, group: Group, first: u32) -> Result<(), OutOfMemory>
     requires { first + group.count * group.cells ≤ most_words }
     ensures { OnOk result (areas.new.items ≡ areas.old.items ++ laid_from first (members group)) }

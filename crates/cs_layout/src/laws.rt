@@ -1,4 +1,4 @@
-// What holds of every layout of a piece: calls that do nothing, whose contracts are the laws.
+// Facts about every layout of a piece: calls that do nothing as they run, whose contracts are the laws.
 ghost use Rattle.std.specs.Prelude.{ℕ, ◌≡◌, ◌<◌, List, Some, true};
 ghost use Rattle.std.specs.{List.All, Option.is_some};
 ghost use Rattle.cs_machine.specs.Access.{AreSpaces, spaces_of};
@@ -12,8 +12,9 @@ ghost use Rattle.cs_rwset.specs.Footprints.{stock_of};
 ghost use Rattle.cs_voice_meaning.specs.Placing.{IsPlaced, area_of, cell_count, is_table_size};
 ghost use Rattle.cs_typed.specs.TypedTree.{SharedNames};
 
-/// Areas follow one another and no resource has two; a resource has one exactly where the piece has the resource, with
-/// a cell for each frame of a control cycle where it is a sound, else one.
+/// For the prover: areas follow one another and no resource has two. A resource has an area if and only if
+/// the piece has the resource; an audio resource has a cell for each frame of a control cycle, any other one
+/// cell.
 pub fn layouts_are_complete()
     ensures laid { (ksmps : ℕ) (names : SharedNames) (spaces : Spaces) (live : List LiveTable) → AreApart live
         → IsLaid (areas_of ksmps names spaces live) }
@@ -26,8 +27,8 @@ pub fn layouts_are_complete()
         → (stock_of (areas_of ksmps names spaces live)).spaces ≡ spaces }
 {}
 
-/// The zak spaces of a layout are those of the piece: each of their places has its area, from 0 on, and no other place
-/// has one.
+/// For the prover: a layout has the zak spaces of the piece. Each place has its area, from place 0 on, and no
+/// other place has one.
 pub fn layouts_have_their_places()
     ensures spaces { (ksmps : ℕ) (names : SharedNames) (spaces : Spaces) (live : List LiveTable)
         → spaces_of (areas_of ksmps names spaces live) ≡ spaces }
@@ -35,8 +36,8 @@ pub fn layouts_have_their_places()
         → AreSpaces (areas_of ksmps names spaces live) }
 {}
 
-/// What the notes of a piece share is placed in its layout: its zak spaces, and those of its tables that notes may
-/// write.
+/// For the prover: what the notes of a piece share has its areas in the layout: the zak spaces, and the
+/// tables that notes may write.
 pub fn layouts_hold_a_piece()
     ensures { (names : SharedNames) (live : List LiveTable) (piece : Piece) → AreApart live → 0 < piece.head.ksmps
         → AreLive live piece.tables → AreOfPiece live piece.tables → All (λ t. is_table_size t.size ≡ true) live

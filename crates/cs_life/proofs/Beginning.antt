@@ -1,4 +1,4 @@
--- What is kept stands after the steps of a start.
+-- The state represents a moment after the steps of a start.
 use Rattle.std.proofs.Common.{◌≡◌, ◌∙◌, ◌+◌, ℕ, ℤ, pos, ◌==◌, Bool, true, false, List, length, map, sym, ap, refl}
 use Rattle.std.proofs.Common.{subst}
 use Rattle.std.specs.Prelude.{◌||◌, nat_lt, Option, Some, None, if◌then◌else◌}
@@ -22,13 +22,13 @@ use Rattle.cs_voice.specs.{declared.note.Started.Started, VoiceData.VoiceData, d
 use Rattle.cs_sched.specs.Times as times
 use Rattle.cs_voice_meaning.specs.Voices as sounding
 
--- what the start of a note answers and leaves
+-- the result of starting a note, and what it leaves
 pub record Gives (s : sounding.Sheet) (until : ℕ) (cells new : Cells) (r : Started) (asks : List Ask) : Type 0 where
   pub result : IsStarted s until (sounding.initialised s (cell cells)) r
   pub cells_are : cell new ≡ (sounding.initialised s (cell cells)).world.shared
   pub asks_are : asks ≡ map ask_of (sounding.initialised s (cell cells)).world.asks
 
--- what is so before the note takes its place
+-- what holds before the note joins those that play
 pub record IsReady (c : Composition) (life : Life) (voices : List VoiceData) (new : Cells) (now : ℕ) (s : Start)
     (body : Block) (t : Note Plain) (r : Started)
     (pending : Queue) (not_started : ℕ) (n : Moment) : Type 0 where
@@ -82,13 +82,13 @@ module _ (c : Composition) (life : Life) (voices : List VoiceData) (cells new : 
             (wait_so c life voices new left (all_wanted c now time asks left) pending not_started first others wait);
       }
 
--- time goes as the header of the stage says
+-- time follows the header of the stage
 pub clock_is : (c : Composition) (stage : Stage) (total : ℕ) → IsStageOf c stage → total ≡ c.cycles
     → clock_of c ≡ times.clock_of stage.head.now total
 clock_is c stage total is same =
     λ i. record { sr = (sym is.head i).sr; ksmps = (sym is.head i).ksmps; cycles = sym same i }
 
--- whether there is room, by how many voices there are
+-- whether there is room, by the number of voices
 pub room_is : (c : Composition) (life : Life) (voices : List VoiceData) (cells : Cells) (m : Moment) (s : Start)
     → StandsFor c life voices cells m
     → has_room s m ≡ (s.cycles == 0 || nat_lt (length voices) most_notes)
@@ -96,7 +96,7 @@ room_is c life voices cells m s stands =
     ap (λ n. s.cycles == 0 || nat_lt n most_notes)
     (AllZip-long (Plays c life.stage life.made.items) voices m.active stands.stand.play)
 
--- what is so of an instrument of a number that is there
+-- what holds for the instrument with a number, if it exists
 abbrev pub IsThere : Composition → (areas zones : List Area) → ℤ → Numbered → Footprint → Type 0
 IsThere c layout zones number i foot = (body : Block) × (c.instrument number ≡ Some body) × (pos i.number ≡ number)
     × ((stage : Stage) → IsStageOf c stage → stage.layout.now ≡ layout
@@ -104,13 +104,13 @@ IsThere c layout zones number i foot = (body : Block) × (c.instrument number �
 
 module _ (c : Composition) (now : ℕ) (m : Moment) (life after : Life) (voices left : List VoiceData)
     (cells new : Cells) where
-  -- an instrument that isn't there
+  -- an instrument that doesn't exist
   pub none_there : (s : Start) → c.instrument s.number ≡ None → StandsFor c after left new (in_vain m)
       → StandsFor c after left new (start_in c now s m)
   none_there s none stands =
       subst (λ (o : Option Block). StandsFor c after left new (started c now s o m)) (sym none) stands
 
-  -- one note too many
+  -- too many notes
   pub too_many : (s : Start) (i : Numbered) (foot : Footprint) (layout zones : List Area)
       → IsThere c layout zones s.number i foot
       → StandsFor c life voices cells m
@@ -122,7 +122,7 @@ module _ (c : Composition) (now : ℕ) (m : Moment) (life after : Life) (voices 
       (if b then initialised c now s there.0 (begun c m.made s there.0 m) m else in_vain m))
       (sym (room_is c life voices cells m s stands ∙ full)) vain)
 
-  -- it was initialised
+  -- the note was initialised
   pub there_is_room : (s : Start) (i : Numbered) (foot : Footprint)
       → IsThere c life.setup.now.layout life.setup.now.zones
       s.number i foot

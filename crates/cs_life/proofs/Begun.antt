@@ -1,4 +1,4 @@
--- What came of a note that was started is what came of the note of the definitions.
+-- The result of starting a note represents the result of the note of the definitions.
 use Rattle.std.proofs.Common.{◌≡◌, ◌∙◌, ◌+◌, ℕ, pos, Bool, List, length, sym, ap, subst}
 use Rattle.cs_cells.specs.{Cells.Cells, Cells.cell, declared.footprint.Footprint.Footprint}
 use Rattle.cs_piece_meaning.specs.{Moments.Composition, Moments.Moment, Starts.Start, Starts.begun}
@@ -41,7 +41,7 @@ module _ (c : Composition) (stage : Stage) (flags : List Bool) (now : ℕ) (s : 
   pub same_asks : machine.world.asks ≡ t.world.asks
   same_asks = begins.asks ∙ ap (λ (n : Note Plain). n.world.asks) same_note
 
-  -- the cells hold what notes share then
+  -- the cells hold what notes share afterwards
   pub still_hold : (new : Cells) → cell new ≡ machine.world.shared → Hold stage.layout.now (cell new) t.world.shared
   still_hold new e =
       subst (λ x. Hold stage.layout.now x t.world.shared) (sym e)

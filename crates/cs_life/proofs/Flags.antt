@@ -1,4 +1,4 @@
--- Voices play on when more tables have been made.
+-- Voices go on playing after more tables have been made.
 use Rattle.std.proofs.Common.{◌≡◌, ℕ, ℤ, pos, suc, ◌==◌, ◌&&◌, ◌||◌, Bool, true, false, not, List, ◌∷◌, length, map, []}
 use Rattle.std.proofs.Common.{unsigned_abs, Option, Some, if◌then◌else◌, refl, sym, ◌∙◌, ap, arith}
 use Rattle.std.specs.{Int.is_negative, Option.is_some, List.AllZip, List.list_any}
@@ -36,7 +36,7 @@ pub flags_fit : (ts : List PieceTable) (cs : List Table) (ns : List ℕ) (flags 
     → length flags ≡ length ts
 flags_fit ts cs ns flags e is = ap length is ∙ flags_long cs ns ∙ sym (same_length table_of made ts cs e)
 
--- when those of a number have been made, the flags are those of one number more
+-- after the tables with a number have been made, the flags are those for one more number
 pub marked_flags : (ts : List PieceTable) (cs : List Table) (n : ℕ) (ns : List ℕ) → map table_of ts ≡ map made cs
     → marked n ts (flags_of cs ns) ≡ flags_of cs (n ∷ ns)
 marked_flags [] [] n ns e = refl
@@ -62,7 +62,8 @@ in_branches : (b : Bool) (c : Table) (o : Option Table)
 in_branches true c o = refl
 in_branches false c o = refl
 
--- the first table of a number has its points in cells, in the stage as in the composition
+-- the points of the first table with a number are cells in the stage if and only if they are in the
+-- composition
 pub cells_of_first : (ts : List PieceTable) (cs : List Table) (n : ℕ) → map table_of ts ≡ map made cs
     → has_cells ts n ≡ is_in_cells (find_table cs (pos n))
 cells_of_first [] [] n e = refl
@@ -78,14 +79,14 @@ cells_of_first _ _ n e = absurd cc
 
 -- ---- tables that notes find
 
--- once all have been made they are the same
+-- once all have been made, both lists are the same
 pub all_made : (ts : List PieceTable) (fs : List Bool) → length fs ≡ length ts
     → map made (tables_of ts fs) ≡ map table_of ts
 all_made [] fs h = refl
 all_made (t ∷ ts) [] h = absurd (omega arith)
 all_made (t ∷ ts) (f ∷ fs) h = ap (λ rest. table_of t ∷ rest) (all_made ts fs (omega arith))
 
--- a table of the composition stands in the stage, made or not
+-- a table of the composition is in the stage, made or not
 pub record IsFound (ts : List PieceTable) (flags : List Bool) (z : ℤ) (t : Table) : Type 0 where
   pub u : Table
   pub found : find_table (tables_of ts flags) z ≡ Some u

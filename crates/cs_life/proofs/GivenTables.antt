@@ -1,4 +1,4 @@
--- Each table that an event gives can be made, and has the size of the table of its number.
+-- Each table that an event defines can be made, and has the size of the other tables with its number.
 use Rattle.std.proofs.Common.{◌≡◌, ℕ, ℤ, pos, zero, suc, ◌<◌, ◌==◌, ◌&&◌, ◌⊎◌, inl, inr, Bool, true, false, not, cond}
 use Rattle.std.proofs.Common.{[], List, ◌∷◌, ◌++◌, length, map, slice_index_or, unsigned_abs, Some, None, if◌then◌else◌}
 use Rattle.std.proofs.Common.{refl, sym, subst, ◌∙◌, ap, arith}
@@ -16,7 +16,7 @@ use Rattle.cs_voice_meaning.proofs.Naming.{found_number}
 use Rattle.cs_tempo.specs.declared.plot.EventAct.TheVariants as act
 use Rattle.cs_typed.specs.TypedTree as typed
 
--- ---- what stands among what
+-- ---- elements of joined lists
 
 on_the_left : (xs ys : List Given) (x : Given) → Among xs x → Among (xs ++ ys) x
 on_the_left [] ys x h = absurd h
@@ -42,14 +42,14 @@ among_all [] g h = absurd h
 among_all (x ∷ xs) g (inl e) = inl e
 among_all (x ∷ xs) g (inr h) = inr (among_all xs g (unfiltered (λ y. not (y.number == x.number)) (firsts xs) g h))
 
--- what an event gives is given
+-- a table that one event defines is among all that are defined
 given_at : (es : List Event) (k : ℕ) (d : Event) (g : Given) → k < length es
     → Among (given_by (slice_index_or es k d).act) g → Among (given_in es) g
 given_at [] k d g h a = absurd (omega arith)
 given_at (e ∷ es) zero d g h a = on_the_left (given_by e.act) (given_in es) g a
 given_at (e ∷ es) (suc k) d g h a = on_the_right (given_by e.act) (given_in es) g (given_at es k d g (omega arith) a)
 
--- ---- the table of a number
+-- ---- the table with a number
 
 record IsGiven (o : typed.Orchestra) (gs xs : List Given) (t : Table) : Type 0 where
   g : Given
@@ -72,7 +72,7 @@ all_given o gs (x ∷ xs) = (
   later_all o gs x xs (map (table_in o gs) xs) (all_given o gs xs),
 )
 
--- what holds of each table holds of the one that is found
+-- what holds for each table holds for the one that is found
 found_each : (P : Table → Type 0) (ts : List Table) (n : ℕ) (t : Table) → Each P ts
     → find_table ts (pos n) ≡ Some t → P t
 found_each P [] n t e h = absurd cc

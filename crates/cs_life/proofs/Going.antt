@@ -1,4 +1,4 @@
--- One thing after another is done.
+-- Things are done one after another.
 use Rattle.std.proofs.Common.{◌≡◌, ℕ, ℤ, pos, zero, suc, ◌+◌, ◌-◌, ◌<◌, ◌≤◌, ◌==◌, Bool, true, false, cond, List, ◌∷◌}
 use Rattle.std.proofs.Common.{[], ◌++◌, length, length-drop, take, drop, get_or, get_or-drop, leb, ltb, refl, sym, ◌∙◌}
 use Rattle.std.proofs.Common.{ap, subst, arith}
@@ -15,7 +15,7 @@ use Rattle.cs_life.specs.{Standing.StandsFor, declared.life.Life.Life}
 use Rattle.cs_life.specs.inner.Doing.{CanBeDone, CanBeMade, CanGoOn, HasGoneOn}
 use Rattle.cs_tempo.specs.declared.plot.EventAct.TheVariants as act
 
--- what has gone on can go on
+-- after something was done, the next thing can be done
 pub goes_on : {access access' : Access} {leads : Moment → Moment} {life new : Life}
     {voices after : List VoiceData} {cells left : Cells} → access' ≡ access → new.setup.now ≡ life.setup.now
     → HasGoneOn leads life voices cells new after left → CanGoOn access life voices cells
@@ -45,7 +45,7 @@ done_more : (c : Composition) (es : List Event) (e : Event) (m : Moment)
 done_more c [] e m = refl
 done_more c (x ∷ es) e m = done_more c es e (act_done c x.cycle x.act m)
 
--- one event more is done
+-- one more event is done
 pub event_done : (es : List Event) (k : ℕ) (e : Event) {life mid new : Life} {voices mids after : List VoiceData}
     {cells middle left : Cells} → k < length es → e ≡ get_or es k e → mid.setup.now ≡ life.setup.now
     → HasGoneOn (all_done (composition_of life.setup.now) (take k es)) life voices cells mid mids middle
@@ -60,7 +60,7 @@ event_done es k e {life} {mid} {new} {voices} {mids} {after} {cells} {middle} {l
     ∙ sym (done_more c (take k es) e m) ∙ ap (λ xs. all_done c xs m) (sym here)) i)
     (one_then setup one two)
 
--- those of a cycle follow one another
+-- the events of a cycle are consecutive
 module _ (p : Event → Bool) where
   none_before : (es : List Event) (i : ℕ) → i ≤ length es → ((k : ℕ) (d : Event) → k < i → p (get_or es k d) ≡ false)
       → filter p es ≡ filter p (drop i es)
@@ -87,7 +87,7 @@ module _ (p : Event → Bool) where
 
 -- ---- a cycle begins
 
--- notes have left, the events have been done, and those that waited have been started
+-- notes have left, the events have been done, and the notes that waited have been started
 pub begun : (cycle : ℕ) (life mid new : Life) (voices stayed mids after : List VoiceData) (cells middle last : Cells)
     → mid.setup.now ≡ life.setup.now
     → HasGoneOn (still cycle) life voices cells life stayed cells
@@ -110,7 +110,7 @@ behind_it x n h = grind (arith, nat_tests)
 it_is : (x n : ℕ) → ltb x n ≡ false → leb x n ≡ true → (x == n) ≡ true
 it_is x n h k = grind (arith, nat_tests)
 
--- from the first that isn't before the cycle on, those that aren't behind it
+-- the events of a cycle: from the first that isn't before it up to those after it
 pub events_between : (es rest : List Event) (cycle first count : ℕ) → first ≤ length es → rest ≡ drop first es
     → count ≤ length rest
     → IsPartitionPoint (λ (e : Event). ltb e.cycle cycle ≡ true) (λ (e : Event). ltb e.cycle cycle ≡ false) es first
@@ -129,7 +129,7 @@ events_between es rest cycle first count low is high point until =
     ∙ sym (none_before (λ (e : Event). e.cycle == cycle) es first low
     (λ k d lt. before_it (get_or es k d).cycle cycle (point.0 k d (omega arith) lt)))
 
--- an event among some can be done
+-- one of some events can be done
 pub event_can : (life new : Life) (es : List Event) (k : ℕ) (e : Event) → new.setup.now ≡ life.setup.now
     → All (λ (x : Event). CanBeDone (composition_of life.setup.now) x.act) es → k < length es → e ≡ get_or es k e
     → CanBeDone (composition_of new.setup.now) e.act
@@ -137,7 +137,7 @@ event_can life new es k e setup all below is =
     subst (λ x. CanBeDone (composition_of x) e.act) (sym setup)
     (subst (λ (x : Event). CanBeDone (composition_of life.setup.now) x.act) (sym is) (all k e below))
 
--- a table that an event gives, by its parts as a call passes them
+-- a table that an event defines, by the parts that a call passes
 pub table_given : (c : Composition) (a : EventAct) (number : ℕ) (size gen s g : ℤ) (args xs : List ℤ)
     → a ≡ act.Table number size gen args
     → s ≡ size → g ≡ gen → xs ≡ args → CanBeDone c a → CanBeMade c number s g xs
@@ -162,7 +162,7 @@ note_done now {life} {new} {voices} {after} {cells} {left} {instr} {cycles} is e
           (record { number = en i; cycles = cycles; fields = ef i }) m) (h m s);
     })
 
--- and a table was made
+-- a table was made
 pub table_done : (now : ℕ) {life new : Life} {voices after : List VoiceData} {cells left : Cells} {number : ℕ}
     {size gen s g : ℤ} {args xs : List ℤ} {a : EventAct}
     → a ≡ act.Table number size gen args → s ≡ size → g ≡ gen → xs ≡ args

@@ -1,4 +1,4 @@
--- What voices that stand at a moment give is what its notes give.
+-- The sum of voices that represent a moment's notes is the sum of the notes.
 use Rattle.std.proofs.Common.{◌≡◌, ℕ, ℤ, Bool, List, ◌∷◌, length, map, refl, sym, ◌∙◌, ap, []}
 use Rattle.std.specs.List.{All, AllZip, flat_map, range_with_len}
 use Rattle.std.proofs.lemmas.Slice.Zip.{AllZip-long}
@@ -13,7 +13,7 @@ use Rattle.cs_voice.specs.{VoiceData.VoiceData, declared.stage.Stage.Stage}
 use Rattle.cs_life.proofs.Places.{all_on_left}
 use Rattle.cs_life.specs.{Standing.Plays, Standing.StandsFor, declared.life.Life.Life}
 
--- each voice gives what its note gives
+-- each voice has the output of its note
 same_outs : (c : Composition) (stage : Stage) (flags : List Bool) (voices : List VoiceData) (active : List Active)
     → AllZip (Plays c stage flags) voices active → (frame channel : ℕ)
     → map (λ (v : VoiceData). outs v.outs channel frame) voices ≡ map (λ (a : Active). a.note.world.outs channel frame)
@@ -23,7 +23,7 @@ same_outs c stage flags (v ∷ voices) (a ∷ active) p frame channel =
     λ i. p.0.note.outs i channel frame ∷ same_outs c stage flags voices active p.1 frame channel i
 same_outs c stage flags _ _ p frame channel = absurd p
 
--- so the frames of a cycle are those of its notes
+-- so the frames of a cycle are its notes' frames
 pub heard : (c : Composition) (life : Life) (voices : List VoiceData) (cells : Cells) (n : ℕ)
     → StandsFor c life voices cells (performed c (begins c n (moment_at c n)))
     → mixed c.head.ksmps c.head.nchnls voices ≡ mix_in c n
@@ -46,7 +46,7 @@ shapes c life voices cells m s =
     let frames : v.outs.ksmps ≡ c.head.ksmps = p.valid.channel_frames ∙ ap (λ (h : Header). h.ksmps) head in
     λ i. (frames i, (head i).nchnls)) voices m.active s.stand.play
 
--- as many voices as notes
+-- there are as many voices as notes
 pub as_many : (c : Composition) (life : Life) (voices : List VoiceData) (cells : Cells) (m : Moment)
     → StandsFor c life voices cells m
     → length voices ≡ length m.active

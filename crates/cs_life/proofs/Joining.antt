@@ -1,4 +1,4 @@
--- A voice that joined stands for a note that took its place.
+-- A voice that joined represents a note that joined.
 use Rattle.std.proofs.Common.{◌≡◌, ℕ, ℤ, pos, ◌≤◌, ◌<◌, Bool, true, false, not, List, length, get_or, ap, arith}
 use Rattle.std.specs.List.{AllWithin, AllZip, insert}
 use Rattle.std.proofs.lemmas.{Bool.Decides.nat_tests, Slice.Zip.AllZip-long}
@@ -6,7 +6,7 @@ use Rattle.cs_piece_meaning.specs.Moments.{Composition, Active, at_most, placed}
 use Rattle.cs_piece_meaning.proofs.Standing.{zip_at}
 use Rattle.cs_life.proofs.Places.{back, front}
 use Rattle.cs_life.specs.Standing.{Plays}
-use Rattle.cs_roster.specs.Roster.{Joined}
+use Rattle.cs_life.specs.inner.Roster.{Joined}
 use Rattle.cs_voice.specs.{VoiceData.VoiceData, declared.stage.Stage.Stage}
 
 no_lower : (x y : ℤ) (m n : ℕ) → x ≡ pos m → y ≡ pos n → m ≤ n → at_most x y ≡ true

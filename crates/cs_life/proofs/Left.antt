@@ -1,11 +1,11 @@
--- Voices that stand at a moment, once some of its notes have left.
+-- Voices that represent a moment, after some of its notes have left.
 use Rattle.std.proofs.Common.{◌≡◌, Bool, true, false, not, nat_lt, cond, List, ◌∷◌, filter, refl, sym, ap}
 use Rattle.std.proofs.Common.{[], subst, arith}
 use Rattle.std.specs.List.{AllZip}
 use Rattle.std.proofs.lemmas.List.Kept.{IsNonDecreasingBy-filter}
 use Rattle.cs_cells.specs.Cells.{Cells}
 use Rattle.cs_piece_meaning.specs.Moments.{Composition, Active, Moment}
-use Rattle.cs_roster.proofs.Growing.{fewer}
+use Rattle.cs_life.proofs.Growing.{fewer}
 use Rattle.cs_voice.specs.{VoiceData.VoiceData, declared.stage.Stage.Stage}
 use Rattle.cs_life.specs.{Leaving.stays, Leaving.without, declared.leaving.Leaving.Leaving, declared.life.Life.Life}
 use Rattle.cs_life.specs.Standing.{Plays, StandsFor, VoicesStand}
@@ -21,7 +21,7 @@ module _ (c : Composition) (stage : Stage) (flags : List Bool) where
 
   module _ (test : VoiceData → Bool) (q : Active → Bool)
       (agree : (v : VoiceData) (a : Active) → Plays c stage flags v a → test v ≡ q a) where
-    -- the voices that stay stand for the notes that stay
+    -- the voices that stay represent the notes that stay
     kept_play : (voices : List VoiceData) (active : List Active) → AllZip (Plays c stage flags) voices active
         → AllZip (Plays c stage flags) (filter test voices) (filter q active)
     kept_play [] [] p = tt
@@ -31,7 +31,7 @@ module _ (c : Composition) (stage : Stage) (flags : List Bool) where
         (chosen v a (filter test voices) (filter q active) (q a) p.0 (kept_play voices active p.1))
     kept_play _ _ p = absurd p
 
--- what stands at a moment, once those have left that don't pass a test
+-- the state represents the moment without the notes that don't pass a test
 pub kept_stand : (c : Composition) (stage : Stage) (flags : List Bool) (test : VoiceData → Bool) (q : Active → Bool)
     → ((v : VoiceData) (a : Active) → Plays c stage flags v a → test v ≡ q a)
     → (voices : List VoiceData) (cells : Cells) (m : Moment) → VoicesStand c stage flags voices cells m
@@ -48,7 +48,7 @@ kept_stand c stage flags test q agree voices cells m s =
       few = omega (arith, fewer test voices, s.few);
     }
 
--- the notes that stay by one reason or the other
+-- the notes that stay, for either reason
 abbrev staying : Leaving → Active → Bool
 staying (leaving.Over cycle) a = nat_lt cycle a.ends
 staying leaving.TurnedOff a = not a.note.world.ended
@@ -62,7 +62,7 @@ without_is : (l : Leaving) (m : Moment) → record m { active = filter (staying 
 without_is (leaving.Over cycle) m = refl
 without_is leaving.TurnedOff m = refl
 
--- Once notes have left, what is left stands at the moment without them.
+-- Once notes have left, the state represents the moment without them.
 pub left_stands : (l : Leaving) (c : Composition) (life : Life) (voices left : List VoiceData) (cells : Cells)
     (m : Moment) → left ≡ filter (stays l) voices → StandsFor c life voices cells m
     → StandsFor c life left cells (without l m)

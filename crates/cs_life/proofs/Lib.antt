@@ -7,9 +7,11 @@ mod Tabled
 mod Waited
 pub mod Beginning
 pub mod Begun
+pub mod Growing
 pub mod Heard
 pub mod Joining
 pub mod Left
+pub mod Ordered
 pub mod Orders
 pub mod Performing
 pub mod Places

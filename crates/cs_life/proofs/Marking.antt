@@ -1,4 +1,4 @@
--- The tables of a stage, gone through one by one.
+-- The tables of a stage, one by one.
 use Rattle.std.proofs.Common.{◌≡◌, ◌≢◌, ℕ, zero, suc, ◌+◌, ◌<◌, ◌==◌, ◌||◌, Bool, true, false, List, ◌∷◌, length, take}
 use Rattle.std.proofs.Common.{get_or, refl, sym, ◌∙◌, ap, arith, slice_set}
 use Rattle.std.proofs.lemmas.Bool.Decides.{nat_tests}

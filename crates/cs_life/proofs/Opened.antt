@@ -1,4 +1,5 @@
--- The opening of a performance: what stands when the code outside instruments has run over cells that are all 0.
+-- The opening of a performance: its state after the code outside of instruments has run on cells that are all
+-- 0.
 use Rattle.std.proofs.Common.{◌≡◌, ℕ, pos, suc, Bool, false, List, ◌∷◌, length, replicate, Option, Some, None, [], refl}
 use Rattle.std.proofs.Common.{sym, ◌∙◌, ap, subst, arith}
 use Rattle.cs_base.specs.{Rates.res_rate, declared.resource.Rate.Rate}
@@ -30,7 +31,7 @@ zeros_hold : (areas : List Area) (n : ℕ) → Hold areas (cell (replicate n (po
 zeros_hold areas n = λ g has. (λ i. wave_of (area_of areas g) (res_rate g) (λ a. zero_at n a i))
     ∙ silent (area_of areas g) (res_rate g)
 
--- ---- the code outside instruments
+-- ---- the code outside of instruments
 
 pub outside_holds : (c : Composition) (stage : Stage) (i : Numbered) (foot : Footprint) (flags : List Bool)
     (cells new : Cells) (n : ℕ)
@@ -54,7 +55,7 @@ pub none_made : (cs : List Table) (n : ℕ) → n ≡ length cs → replicate n 
 none_made [] n e = ap (λ k. replicate k false) e
 none_made (c ∷ cs) n e = ap (λ k. replicate k false) e ∙ ap (λ fs. false ∷ fs) (none_made cs (length cs) refl)
 
--- ---- all that stands
+-- ---- the complete state
 
 pub opened : (c : Composition) (life : Life) (cells : Cells) → IsStageOf c life.stage
     → life.stage.layout.now ≡ life.setup.now.layout → life.stage.zones.now ≡ life.setup.now.zones

@@ -1,10 +1,10 @@
--- Lists in order by a number.
+-- Lists in order of a number.
 use Rattle.std.proofs.Common.{◌≡◌, ℕ, suc, ◌<◌, ◌≤◌, List, ◌∷◌, length, get_or, map, refl, sym, ◌∙◌, ap, subst, arith}
 use Rattle.std.proofs.{Common.[], Math.ListN.get_or-map as get_or_map_default}
 use Rattle.std.specs.List.Sorted.{IsNonDecreasingBy}
 use Rattle.std.proofs.lemmas.List.{get_or-map}
 
--- lists that are mapped alike have as many elements
+-- lists with the same images have the same length
 pub same_length : {A B X : Type 0} (f : A → X) (g : B → X) (xs : List A) (ys : List B) → map f xs ≡ map g ys
     → length xs ≡ length ys
 same_length f g [] [] e = refl
@@ -13,7 +13,7 @@ same_length f g (x ∷ xs) (y ∷ ys) e =
     ap suc (same_length f g xs ys rest)
 same_length f g _ _ e = absurd cc
 
--- A list that has the numbers of one in order is in order.
+-- A list that has the numbers of an ordered list is ordered.
 pub order_over : {A B : Type 0} (n : A → ℕ) (k : B → ℕ) (xs : List A) (ys : List B) → map k ys ≡ map n xs
     → IsNonDecreasingBy n xs
     → IsNonDecreasingBy k ys

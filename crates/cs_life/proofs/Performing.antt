@@ -1,4 +1,4 @@
--- A cycle of voices that stand at a moment leaves voices that stand at the moment after it.
+-- A cycle of voices that represent a moment leaves voices that represent the moment after it.
 use Rattle.std.proofs.Common.{◌≡◌, ℕ, ℤ, ◌≤◌, ◌==◌, Bool, List, ◌∷◌, length, map, refl, sym, ◌∙◌, ap, subst, arith, []}
 use Rattle.std.proofs.lemmas.List.FromFn.{length-map-range_with_len}
 use Rattle.std.specs.List.{All, AllZip, list_any}
@@ -24,7 +24,7 @@ use Rattle.cs_life.specs.declared.life.Life.{Life}
 use Rattle.cs_life.proofs.{Flags.flags_fit, Orders.order_over, Places.all_on_left}
 use Rattle.cs_voice_meaning.specs.Voices as sounding
 
--- Tables as a note finds them: those of the composition as they were made, and those of the stage by their flags.
+-- Tables as a note finds them: the composition's as they were made, and the stage's by their flags.
 pub same_tables : (tables : List Table) (at : List PieceTable) (numbers : List ℕ) → map table_of at ≡ map made tables
     → map (as_made numbers) tables ≡ tables_of at (flags_of tables numbers)
 same_tables [] [] numbers e = refl
@@ -36,7 +36,7 @@ same_tables (t ∷ tables) (x ∷ at) numbers e =
     λ i. here i ∷ same_tables tables at numbers rest i
 same_tables _ _ numbers e = absurd cc
 
--- what a note finds
+-- the piece that a note finds
 pub same_piece : (c : Composition) (stage : Stage) (flags : List Bool) (numbers : List ℕ) (fields : List ℤ)
     → IsStageOf c stage
     → flags ≡ flags_of c.tables numbers → piece_with c numbers fields ≡ piece_at stage flags fields
@@ -53,7 +53,7 @@ same_piece c stage flags numbers fields is f =
       fields = field_of fields;
     }
 
--- what is left of a step of the way through a cycle: the voice, the cells, and what notes share
+-- a step of the way through a cycle: the voice, the cells, and what notes share after it
 record Stepped (c : Composition) (stage : Stage) (flags : List Bool) (numbers : List ℕ) (v : VoiceData) (a : Active)
     (cells : Cells)
     (shared : Res → Wave) : Type 0 where
@@ -61,7 +61,7 @@ record Stepped (c : Composition) (stage : Stage) (flags : List Bool) (numbers : 
   hold : Hold stage.layout.now (cell (leaves v cells)) (next c numbers shared a).note.world.shared
   long : length (leaves v cells) ≡ length cells
 
--- and of the whole way
+-- the complete way through a cycle
 record Passed (c : Composition) (stage : Stage) (flags : List Bool) (numbers : List ℕ) (voices : List VoiceData)
     (active : List Active)
     (cells : Cells) (shared : Res → Wave) : Type 0 where
@@ -153,7 +153,8 @@ runs_perform law c life voices cells m s =
       not_started = s.not_started;
     }
 
--- What a run of the voices of a moment asks for: they have the same zones, and each a footprint over them.
+-- What a run of the voices of a moment requires: they have the same zones, and each has a footprint in terms
+-- of them.
 pub layouts : (c : Composition) (life : Life) (voices : List VoiceData) (cells : Cells) (m : Moment)
     → StandsFor c life voices cells m
     → All (λ (v : VoiceData). v.zones ≡ life.stage.zones.now) voices

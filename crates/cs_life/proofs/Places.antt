@@ -1,4 +1,4 @@
--- A note takes its place among those that play.
+-- A note joins those that play.
 use Rattle.std.proofs.Common.{◌≡◌, ◌∙◌, ℕ, suc, ◌≤◌, ◌+◌, Bool, true, false, List, ◌∷◌, ◌++◌, length, [], take, drop}
 use Rattle.std.proofs.Common.{zero, sym, ap, refl, arith, append-nil, length-drop}
 use Rattle.std.specs.{Prelude.filter, List.All, List.AllWithin, List.AllZip, List.insert}
@@ -6,7 +6,7 @@ use Rattle.std.proofs.lemmas.List.{get_or-drop, get_or-take, length-take-le, tak
 use Rattle.std.proofs.lemmas.List.Elements.{filter-append, All-cons, All-head, All-nil, All-tail}
 
 module _ {A : Type 0} where
-  -- nothing passes a test that each fails, and all passes one that each passes
+  -- no element passes a test that each fails, and all pass one that each passes
   nothing_passes : (p : A → Bool) (xs : List A) → All (λ x. p x ≡ false) xs → filter p xs ≡ []
   nothing_passes p [] fails = refl
   nothing_passes p (x ∷ xs) fails =
@@ -27,7 +27,7 @@ module _ {A : Type 0} where
   all_behind P xs i all k d lt =
       rw (get_or-drop i xs k d) (all (i + k) d (omega arith) (omega (arith, length-drop i xs)))
 
-  -- a test that all before a place pass, and none behind it
+  -- a test that all elements before an index pass, and none from it on
   pub front : (p : A → Bool) (xs : List A) (i : ℕ) → i ≤ length xs → AllWithin (λ x. p x ≡ true) xs 0 i
       → AllWithin (λ x. p x ≡ false) xs i (length xs) → filter p xs ≡ take i xs
   front p xs i le passes fails =
@@ -47,7 +47,7 @@ module _ {A : Type 0} where
       grind (arith, append-nil)
 
 module _ {A B : Type 0} (R : A → B → Type 0) where
-  -- what follows for what stands on the left
+  -- what follows for the elements of the left list
   pub all_on_left : (P : A → Type 0) → ((x : A) (y : B) → R x y → P x) → (xs : List A) (ys : List B) → AllZip R xs ys
       → All P xs
   all_on_left P f [] [] all = All-nil P

@@ -1,5 +1,5 @@
--- What is kept stands at the moments of a start: where it was initialised, where what it asks for is asked for, where
--- it takes its place, and where it started nothing.
+-- The state represents the moments of a start: after the note was initialised, after its notes were
+-- scheduled, after it joined those that play, and after it started nothing.
 use Rattle.std.proofs.Common.{◌≡◌, ◌∙◌, ◌⊎◌, ⊎_elim, inl, inr, ℕ, zero, suc, ◌≤◌, ◌<◌, ◌+◌, ◌-◌, ◌^◌, ◌==◌, Bool, true}
 use Rattle.std.proofs.Common.{false, List, length, sym, ap, refl, subst, arith}
 use Rattle.std.specs.Prelude.{min, Option, None, if◌then◌else◌}
@@ -16,8 +16,8 @@ use Rattle.cs_life.specs.declared.life.Life.{Life}
 use Rattle.cs_life.specs.inner.Starting.{IsBegun, IsRefused, Wait, active_of}
 use Rattle.cs_meaning.specs.{Core.Block, Notes.Note, Plain.Cause, Plain.Plain}
 use Rattle.cs_piece.specs.VoicesOfNotes.{Hold}
-use Rattle.cs_roster.proofs.Joining.{still_in_order}
-use Rattle.cs_roster.specs.Roster.{Joined}
+use Rattle.cs_life.proofs.Ordered.{still_in_order}
+use Rattle.cs_life.specs.inner.Roster.{Joined}
 use Rattle.cs_sched.specs.Waiting.{Queue}
 use Rattle.cs_voice.specs.declared.note.Started.{Started}
 use Rattle.cs_voice.specs.{VoiceData.VoiceData, VoiceMeaning.IsVoice, declared.stage.Stage.Stage}
@@ -39,7 +39,7 @@ lasting : (n : ℕ) → 0 < n → (n == 0) ≡ false
 lasting n lt = grind (arith, nat_tests)
 
 module _ (c : Composition) (life : Life) (voices : List VoiceData) where
-  -- the cells are those that an initialisation left
+  -- the cells are those after an initialisation
   pub shared_so : (cells new : Cells) (m : Moment) (shared : Res → Wave) → StandsFor c life voices cells m
       → length new ≡ length cells
       → Hold life.stage.layout.now (cell new) shared → StandsFor c life voices new (record m { shared = shared })
@@ -61,7 +61,7 @@ module _ (c : Composition) (life : Life) (voices : List VoiceData) where
     zones = s.zones;
   }
 
-  -- what is asked for waits
+  -- the notes that were scheduled wait
   pub wait_so : (cells : Cells) (m n : Moment) (pending : Queue) (not_started : ℕ) → StandsFor c life voices cells m
       → SameOthers m n
       → Wait pending not_started n
@@ -84,7 +84,7 @@ module _ (c : Composition) (life : Life) (voices : List VoiceData) where
     zones = s.zones;
   }
 
-  -- a count of starts goes up
+  -- a count of starts increases
   started_so : (cells : Cells) (m : Moment) → StandsFor c life voices cells m → (after : List VoiceData)
       → after ≡ voices
       → StandsFor c (record life { started = min (life.started + 1) (2 ^ 64 - 1) }) after cells
@@ -109,7 +109,7 @@ module _ (c : Composition) (life : Life) (voices : List VoiceData) where
 
   module _ (cells : Cells) (now : ℕ) (s : Start) (body : Block) (t : Note Plain) (m : Moment)
       (stands : StandsFor c life voices cells m) where
-    -- it has started, and lasts no cycle
+    -- the note has started, and lasts no cycle
     pub brief_so : t.world.cause ≡ None → s.cycles ≡ 0 → (after : List VoiceData) → after ≡ voices
         → StandsFor c (record life { started = min (life.started + 1) (2 ^ 64 - 1) }) after cells
         (entered now s body t t.world.cause m)
@@ -125,7 +125,7 @@ module _ (c : Composition) (life : Life) (voices : List VoiceData) where
     room_for : has_room s m ≡ true → 0 < s.cycles → length m.active < most_notes
     room_for room lasts = grind (arith, nat_tests)
 
-    -- it has started, and takes its place
+    -- the note has started, and joins those that play
     module _ (none : t.world.cause ≡ None) (lasts : 0 < s.cycles) (room : has_room s m ≡ true) (v : VoiceData)
         (plays : (age : ℕ) → Plays c life.stage life.made.items v (active_of now s body t age)) (after : List VoiceData)
         (j : Joined (λ (w : VoiceData). w.number) v voices after) where
@@ -178,7 +178,7 @@ module _ (c : Composition) (life : Life) (voices : List VoiceData) where
           cells (record m { active = x; started = m.started + 1 }))
           (sym takes_place) in_place)
 
-    -- it has started: by what became of its voice
+    -- the note has started: by the state of its voice
     pub live_so : (v : VoiceData) → IsVoice v → IsBegun c life.stage life.made.items now s body t (started.Live v)
         → has_room s m ≡ true
         → (after : List VoiceData) → (s.cycles ≡ 0 → after ≡ voices)
@@ -191,7 +191,7 @@ module _ (c : Composition) (life : Life) (voices : List VoiceData) where
         (λ any. place_so begun.0 any room v (begun.1 valid) after (lasts any stands.stand.in_order))
         (none_or_any s.cycles)
 
--- what doesn't live was refused
+-- a note without a voice was refused
 pub refused_if : (c : Composition) (stage : Stage) (flags : List Bool) (now : ℕ) (s : Start) (body : Block)
     (t : Note Plain) (r : Started)
     → ((v : VoiceData) → r ≡ started.Live v → ⊥) → IsBegun c stage flags now s body t r → IsRefused t

@@ -1,4 +1,4 @@
--- A table is made: what stands at a moment stands when it has been made.
+-- A table is made: the state represents the moment after it.
 use Rattle.std.proofs.Common.{◌≡◌, ℕ, ℤ, pos, zero, suc, ◌+◌, ◌<◌, ◌≤◌, Bool, true, false, not, List, ◌∷◌, length, []}
 use Rattle.std.proofs.Common.{slice_index_or, Option, Some, None, if◌then◌else◌, refl, sym, ◌∙◌, ap, subst, arith}
 use Rattle.std.proofs.Common.{ltb-true, nat_le, nat_lt}
@@ -23,7 +23,7 @@ use Rattle.cs_life.specs.inner.Marks.{PointsWritten, has_cells, is_in_cells, mar
 use Rattle.cs_life.proofs.Flags.{all_play_on, cells_of_first, flags_fit, found_at, marked_flags, marked_long}
 use Rattle.cs_base.specs.declared.resource.Res.TheVariants as res
 
--- beyond its numbers a row is 0
+-- a row is 0 after its numbers
 pub row_ends : (row : List ℤ) (n : ℕ) → length row ≡ n → (j : ℕ) → n ≤ j → row_wave row j ≡ pos 0
 row_ends [] n e j h = refl
 row_ends (x ∷ row) n e zero h = absurd (omega arith)
@@ -90,7 +90,8 @@ module _ {c : Composition} {life : Life} {v : Vec Bool} {voices : List VoiceData
           m.shared w.1 (row_ends points w.0.length w.2) h.stand.hold))
           long
 
-  -- a table has been made: the points of the first of the number are cells, and were written, or all cells stay
+  -- a table has been made: if the points of the first one with the number are cells, they were written;
+  -- otherwise all cells stay
   pub stands_made : (row : List ℤ) → row ≡ points → (b : Bool) → has_cells life.stage.tables.now n ≡ b
       → PointsWritten b life.stage.layout.now n row cells new → length new ≡ length cells
       → StandsFor c (record life { made = v }) voices new (made_table c n points m)
@@ -129,7 +130,7 @@ in_piece access areas g a laid at allows =
     before : (k : ℕ) → in_area (Some a) k ≡ true → k < a.first + a.length
     before k h = ltb-true k (a.first + a.length) (and_parts (nat_le a.first k) (nat_lt k (a.first + a.length)) h).1
 
--- the area of a table that is given can be written, and has a cell a point
+-- the area of a table that is defined can be written, and has a cell for each point
 pub area_ready : (access : Access) (c : Composition) (life : Life) (voices : List VoiceData) (cells : Cells)
     (m : Moment) (n : ℕ) (row : List ℤ)
     (size gen : ℤ) (args : List ℤ) → StandsFor c life voices cells m → CanBeMade c n size gen args

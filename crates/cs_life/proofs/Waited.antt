@@ -10,7 +10,7 @@ use Rattle.cs_sched.specs.{Waiting.IsTaken, Waiting.Queue, Waiting.those_in, Wai
 use Rattle.cs_voice.specs.VoiceData.{VoiceData}
 use Rattle.cs_life.specs.{Standing.StandsFor, declared.life.Life.Life}
 
--- ---- what is taken out
+-- ---- the notes that are taken from the queue
 
 equal : (m n : ℕ) → (m == n) ≡ true → m ≡ n
 equal m n h = grind (arith, nat_tests)
@@ -18,7 +18,7 @@ equal m n h = grind (arith, nat_tests)
 unequal : (m n : ℕ) → (m == n) ≡ false → m ≢ n
 unequal m n h = grind (arith, nat_tests)
 
--- the first is taken: the moment from which its note is started stands
+-- the first note is taken: the state represents the moment from which it is started
 pub taken_out : {c : Composition} {life : Life} {q : Queue} {voices : List VoiceData} {cells : Cells} {m : Moment}
     {now : ℕ} {due : Due} → IsTaken now (waiting life.pending) (Some due) (waiting q) → StandsFor c life voices cells m
     → StandsFor c (record life { pending = q }) voices cells
@@ -45,7 +45,7 @@ taken_out {q = q} {m = m} {now = now} is h = record {
   not_started = h.not_started;
 }
 
--- the first of those that begin in a cycle begins in it
+-- the first of the notes that begin in a cycle begins in it
 first_of : (dues : List Due) (now : ℕ) (due : Due) (rest : List Due) → those_in dues now ≡ due ∷ rest → due.cycle ≡ now
 first_of [] now due rest e = let h : 0 ≡ suc (length rest) = ap length e in absurd (omega (arith, h))
 first_of (d ∷ dues) now due rest e =
@@ -57,7 +57,7 @@ first_of (d ∷ dues) now due rest e =
 pub begins_now : (q p : Queue) {now : ℕ} {due : Due} → IsTaken now (waiting q) (Some due) (waiting p) → due.cycle ≡ now
 begins_now q p {now} {due} is = first_of q.dues now due ((waiting p).due now) is.first
 
--- nothing else was changed where nothing was taken
+-- if no note was taken, nothing changed
 none_out : {c : Composition} {life : Life} {q : Queue} {voices : List VoiceData} {cells : Cells} {m : Moment} {now : ℕ}
     → IsTaken now (waiting life.pending) None (waiting q) → StandsFor c life voices cells m
     → StandsFor c (record life { pending = q }) voices cells m
@@ -74,9 +74,10 @@ none_out {life = life} {q = q} {now = now} is h = record {
   not_started = h.not_started;
 }
 
--- ---- so many have been started
+-- ---- some of the waiting notes have been started
 
--- From a moment of which as many of all are left one comes to where the waiting notes have been started.
+-- From the current moment, with the remaining number of starts, one reaches the moment at which the waiting
+-- notes have been started.
 pub record Waits (all done : ℕ) (c : Composition) (now : ℕ) (life : Life) (voices : List VoiceData) (cells : Cells)
     (m : Moment) : Type 0 where
   pub at : Moment
@@ -98,7 +99,7 @@ no_more : (n : ℕ) (c : Composition) (now : ℕ) (m : Moment) → m.waiting.due
 no_more zero c now m e = refl
 no_more (suc n) c now m e = λ i. unless_none (e i) m (waited n c now (first_started c now (e i) m))
 
--- one note more has been started
+-- one more note has been started
 pub one_started : {all done : ℕ} {c : Composition} {now : ℕ} {life new : Life} {q : Queue}
     {voices after : List VoiceData} {cells left : Cells} {m : Moment} {due : Due}
     → done < all → IsTaken now (waiting life.pending) (Some due) (waiting q)
@@ -115,7 +116,7 @@ one_started {all} {done} {c} {now} {q = q} {due = due} below is starts w =
           ∙ one_waited (all - (done + 1)) c now w.at due ((waiting q).due now) (sym (w.stands.due now) ∙ is.first);
     }
 
--- none waits any more
+-- no note waits any more
 pub all_started : {all done : ℕ} {c : Composition} {now : ℕ} {life : Life} {q : Queue} {voices : List VoiceData}
     {cells : Cells} {m : Moment}
     → IsTaken now (waiting life.pending) None (waiting q) → Waits all done c now life voices cells m
@@ -125,7 +126,7 @@ all_started {all} {done} {c} {now} {life} {q} {voices} {cells} {m} is w =
     w.left ∙ no_more (all - done) c now w.at (sym (w.stands.due now) ∙ is.none refl) in
     subst (λ n. StandsFor c (record life { pending = q }) voices cells n) (sym end) (none_out {q = q} is w.stands)
 
--- as many as may be started have been started
+-- as many notes as may be started have been started
 pub most_started : {all done : ℕ} {c : Composition} {now : ℕ} {life : Life} {voices : List VoiceData} {cells : Cells}
     {m : Moment}
     → all ≤ done → Waits all done c now life voices cells m → StandsFor c life voices cells (waited all c now m)

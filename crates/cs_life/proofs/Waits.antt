@@ -1,4 +1,4 @@
--- What waits after a note was asked for, and after all that a note asks for.
+-- The notes that wait after one was scheduled, and after all that a note schedules.
 use Rattle.std.proofs.Common.{◌≡◌, ◌∙◌, ℕ, ℤ, ◌+◌, ◌-◌, ◌^◌, ◌==◌, List, ◌∷◌, ◌++◌, sym, ap, refl, subst, arith, []}
 use Rattle.std.specs.Prelude.{map, min, if◌then◌else◌}
 use Rattle.cs_piece_meaning.specs.Moments.{Composition, Moment, clock_of}
@@ -10,19 +10,19 @@ use Rattle.cs_sched.specs.{Times.due_of, declared.due.Due.Due, declared.pending.
 use Rattle.cs_sched.specs.Waiting.{Queue, Waiting, answer_to, waiting, with_answer}
 use Rattle.cs_sched.specs.declared.pending.Added.TheVariants as added
 
--- what the values of a machine ask for
+-- the notes that a machine's values schedule
 pub wanted_is : (c : Composition) (now : ℕ) (time : ℤ) (values : List (List ℤ)) (m : Moment)
     → all_wanted c now time (map ask_of values) m ≡ all_asked c now time values m
 wanted_is c now time [] m = refl
 wanted_is c now time (v ∷ values) m = wanted_is c now time values (asked c now time (ask_of v) m)
 
--- one more
+-- one more note
 pub wanted_more : (c : Composition) (now : ℕ) (time : ℤ) (asks : List Ask) (a : Ask) (m : Moment)
     → all_wanted c now time (asks ++ a ∷ []) m ≡ asked c now time a (all_wanted c now time asks m)
 wanted_more c now time [] a m = refl
 wanted_more c now time (b ∷ asks) a m = wanted_more c now time asks a (asked c now time b m)
 
--- nothing but what waits, and the count of starts that started nothing, has changed
+-- only the notes that wait and the count of starts that started nothing have changed
 pub record SameOthers (m n : Moment) : Type 0 where
   pub shared : n.shared ≡ m.shared
   pub made : n.made ≡ m.made
@@ -46,7 +46,7 @@ wanted_same c now time [] m n s = s
 wanted_same c now time (a ∷ asks) m n s =
     wanted_same c now time asks m (asked c now time a n) (asked_same c now time a m n s)
 
--- a count that is kept in 64 bits goes up
+-- a count in 64 bits increases
 pub count_up : (n : ℕ) → kept_count (n + 1) ≡ min (kept_count n + 1) (2 ^ 64 - 1)
 count_up n = omega arith
 
@@ -75,7 +75,7 @@ after_answer added.TooMany d old new n m w e = record {
   count = ap (λ k. min (k + 1) (2 ^ 64 - 1)) w.count ∙ sym (count_up m.not_started);
 }
 
--- a note was asked for: by the answer, and by what waits then
+-- a note was scheduled: by the result, and by the notes that wait afterwards
 pub asked_waits : (c : Composition) (now : ℕ) (time : ℤ) (a : Ask) (answer : Added) (old new : Queue) (n : ℕ)
     (m : Moment)
     → answer ≡ answer_to (clock_of c) now a (waiting old).kept

@@ -10,7 +10,7 @@ abbrev pub stays : Leaving → VoiceData → Bool
 stays (leaving.Over cycle) v = nat_lt cycle v.until
 stays leaving.TurnedOff v = not v.ended
 
--- the moment after the others have left
+-- the moment after the notes that leave for this reason have left
 abbrev pub without : Leaving → Moment → Moment
 without (leaving.Over cycle) m = still cycle m
 without leaving.TurnedOff m = turned_off m

@@ -1,4 +1,4 @@
--- When what is kept of a performance stands at a moment of it.
+-- Which moment of a performance its state represents.
 use Rattle.std.specs.Prelude.{ℕ, pos, ◌≡◌, ◌≤◌, ◌-◌, ◌^◌, ◌==◌, Bool, List, length, map, min}
 use Rattle.std.specs.{List.AllZip, List.list_any, List.Sorted.IsNonDecreasingBy}
 use Rattle.cs_base.specs.Limits.{most_notes}
@@ -13,12 +13,12 @@ use Rattle.cs_voice.specs.{Starts.sheet_at, VoiceMeaning.IsVoice, declared.stage
 use Rattle.cs_voice.specs.VoiceData.{VoiceData, IsOn, sounding_on}
 use Rattle.cs_life.specs.declared.life.Life.{Life}
 
--- which tables have been made, by these numbers
+-- for each table, whether a table with its number has been made
 abbrev pub flags_of : List Table → List ℕ → List Bool
 flags_of tables made = map (λ (t : Table). list_any (λ n. n == t.number) made) tables
 
--- A voice stands for a note that plays: the same instrument and p-fields, the cycle in which it has ended, an
--- instrument of the note's statements, and what the note has come to.
+-- A voice represents a note that plays: the same instrument and p-fields, the same cycle in which it has
+-- ended, an instrument with the note's statements, and the same state.
 pub record Plays (c : Composition) (stage : Stage) (flags : List Bool) (v : VoiceData) (a : Active) : Type 0 where
   pub i : Numbered
   pub foot : Footprint
@@ -31,12 +31,12 @@ pub record Plays (c : Composition) (stage : Stage) (flags : List Bool) (v : Voic
   pub note : IsVoiceOf (sheet_at i v.age foot stage flags v.fields) of.plan of.kinds
       (sounding_on (sheet_at i v.age foot stage flags v.fields) v) a.note
 
--- a count that is kept in 64 bits, and stays at their greatest number
+-- a count as it is stored in 64 bits: it stays at their highest number
 abbrev pub kept_count : ℕ → ℕ
 kept_count n = min n (2 ^ 64 - 1)
 
--- Cells and voices stand at a moment: cells hold what notes share, each voice stands for the note at its place, in
--- the order of performing; so many are no more than may play.
+-- Cells and voices represent a moment: cells hold what notes share, and each voice represents the note at its
+-- index, in performing order; there are no more notes than may play.
 pub record VoicesStand (c : Composition) (stage : Stage) (flags : List Bool) (voices : List VoiceData) (cells : Cells)
     (m : Moment) : Type 0 where
   pub stage_is : IsStageOf c stage
@@ -47,8 +47,8 @@ pub record VoicesStand (c : Composition) (stage : Stage) (flags : List Bool) (vo
   pub in_order : IsNonDecreasingBy (λ (v : VoiceData). v.number) voices
   pub few : length voices ≤ most_notes
 
--- All that is kept stands at a moment: the voices and cells, over the setup's layout; which notes wait, and the counts
--- of starts.
+-- The complete state represents a moment: the voices and cells, with the setup's layout; the notes that wait;
+-- and the counts of starts.
 pub record StandsFor (c : Composition) (life : Life) (voices : List VoiceData) (cells : Cells) (m : Moment) : Type
     0 where
   pub stand : VoicesStand c life.stage life.made.items voices cells m

@@ -1,4 +1,4 @@
-// The notes of a cycle begin.
+// The beginning of a cycle's notes.
 ghost use Rattle.std.specs.Prelude.{◌≡◌, ◌==◌, filter, true, IfOk, OnOk};
 ghost use Rattle.std.specs.{List.All, List.Sorted.IsNonDecreasingBy};
 ghost use Rattle.cs_cells.specs.{Access.AllowsBelow, Areas.word_count};
@@ -7,7 +7,7 @@ ghost use Rattle.cs_piece_meaning.specs.Starts.{act_done, all_done, all_waited};
 ghost use Rattle.cs_life.specs.Standing.{StandsFor};
 ghost use Rattle.cs_life.specs.inner.Doing.{CanBeDone, CanGoOn, HasGoneOn};
 ghost use Rattle.cs_piece.specs.Setups.{composition_of};
-ghost use Rattle.cs_roster.specs.Roster.{Grew};
+ghost use Rattle.cs_life.specs.inner.Roster.{Grew};
 ghost use Rattle.cs_tempo.specs.declared.plot.Event.{Event};
 
 use crate::leaving::Leaving;
@@ -21,10 +21,10 @@ use cs_voice::Voice;
 use std::alloc::Global;
 
 impl<'t> Life<'t> {
-    /// The notes of a cycle begin: those whose end it is leave, then its events are done, then the notes that wait
-    /// for it start. `cycle` is that of the next cycle; after the last, its events alone are done. `voices` are those
-    /// that play, in the order of performing. Returns whether the same notes play as before. After want of memory
-    /// nothing is promised of the voices.
+    /// Begins the notes of a cycle: first the notes that end with its start leave, then its events are done,
+    /// then the notes that wait for it start. `cycle` is the number of the next cycle; after the last cycle
+    /// only its events are done. `voices` are the voices that play, in performing order. Returns whether the
+    /// same notes play as before. If memory runs out, nothing is promised about the voices.
     pub fn begin_cycle<B: Bank>(
         &mut self,
         alloc: Global,
@@ -54,7 +54,7 @@ impl<'t> Life<'t> {
         Ok(all_stay(playing, stayed, voices.len()))
     }
 
-    /// Events are done, one after another.
+    // Does events, one after another.
     fn do_all<B: Bank>(
         &mut self,
         alloc: Global,
@@ -76,7 +76,7 @@ impl<'t> Life<'t> {
         Ok(())
     }
 
-    /// An event is done.
+    // Does an event.
     fn act<B: Bank>(
         &mut self,
         alloc: Global,
@@ -125,7 +125,8 @@ impl<'t> Life<'t> {
         }
     }
 
-    /// The notes that wait for a cycle start, one after another, and those among them that are asked for meanwhile.
+    // Starts the notes that wait for a cycle, one after another, including those that are scheduled
+    // meanwhile.
     fn start_waiting<B: Bank>(
         &mut self,
         alloc: Global,
@@ -150,14 +151,14 @@ impl<'t> Life<'t> {
     }
 }
 
-/// Whether as many have stayed as played, and as many play now.
+// Returns whether all notes that played have stayed and no more play now.
 fn all_stay(playing: usize, stayed: usize, now: usize) -> bool
     ensures { result ≡ true → (stayed ≡ playing) × (now ≡ stayed) }
 {
     stayed == playing && now == stayed
 }
 
-/// The events of a cycle, among events in the order of their cycles.
+// Returns the events of a cycle from events that are in the order of their cycles.
 fn events_of(events: &[Event], cycle: u32) -> &[Event]
     requires { IsNonDecreasingBy (λ (e : Event). e.cycle) events.now }
     ensures { result.now ≡ filter (λ (e : Event). e.cycle == cycle) events.now }

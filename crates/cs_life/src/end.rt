@@ -1,4 +1,4 @@
-// Notes leave: those that have ended as a cycle begins, and those that were turned off as it ends.
+// Notes leave: those that have ended when a cycle begins, and those that were turned off when it ends.
 ghost use Rattle.std.specs.Prelude.{◌≡◌, filter, length};
 ghost use Rattle.cs_cells.specs.Cells.{Cells};
 ghost use Rattle.cs_piece_meaning.specs.{Course.turned_off, Moments.Composition, Moments.Moment};
@@ -9,7 +9,8 @@ use crate::life::Life;
 use cs_voice::Voice;
 
 impl<'t> Life<'t> {
-    /// The notes that were turned off in the cycle leave. `voices` are those that play, in the order of performing.
+    /// Removes the notes that were turned off in the cycle. `voices` are the voices that play, in performing
+    /// order.
     pub fn end_cycle(&self, voices: &mut Vec<Voice<'t>>)
         ensures ended { (c : Composition) (cells : Cells) (m : Moment) → StandsFor c self.now voices.old.items cells m
             → StandsFor c self.now voices.new.items cells (turned_off m) }
@@ -18,7 +19,7 @@ impl<'t> Life<'t> {
         self.leave(voices, Leaving::TurnedOff);
     }
 
-    /// The notes that end so leave.
+    /// Removes the notes that leave for this reason.
     pub(crate) fn leave(&self, voices: &mut Vec<Voice<'t>>, leaving: Leaving)
         ensures left { (c : Composition) (cells : Cells) (m : Moment) → StandsFor c self.now voices.old.items cells m
             → StandsFor c self.now voices.new.items cells (without leaving m) }
@@ -28,14 +29,14 @@ impl<'t> Life<'t> {
     }
 }
 
-/// Lets go of the voices of notes that leave.
+// Drops the voices of notes that leave.
 fn let_go(voices: &mut Vec<Voice<'_>>, leaving: Leaving)
     ensures { voices.new.items ≡ filter (stays leaving) voices.old.items }
 {
     voices.retain(|voice| stays(leaving, voice));
 }
 
-/// Whether the note of a voice stays.
+// Returns whether the note of a voice stays.
 fn stays(leaving: Leaving, voice: &Voice<'_>) -> bool
     ensures { result ≡ stays leaving voice.now }
 {

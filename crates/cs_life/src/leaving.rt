@@ -1,7 +1,7 @@
 // Which notes leave.
 
-/// Why notes leave: as a cycle begins, since it is the one in which they have ended, or an earlier one; or since they
-/// were turned off.
+/// The reason why notes leave: when a cycle begins, because they have ended in it or in an earlier one; or
+/// because they were turned off.
 #[derive(Clone, Copy)]
 pub(crate) enum Leaving {
     Over { cycle: u32 },

@@ -1,13 +1,14 @@
 //! The life of notes: how they start, wait, end and leave, cycle by cycle.
 //!
-//! The one contract: `Life::new` stands at the opening of the piece's performance (cs_piece_meaning), `begin_cycle`
-//! takes it from the moment before a cycle to where the cycle's notes have begun, `end_cycle` to the moment after it;
-//! between the two whoever performs the notes hands over what the serial run makes of them, which `serial_runs_perform`
-//! takes to the cycle's performance (`StandsFor`, specs/Standing). Voices and cells stay with the caller. In which
-//! order memory is taken, how tables and notes that wait are found, may be changed without anyone above noticing.
+//! The one contract: `Life::new` is the opening of the piece's performance (cs_piece_meaning), `begin_cycle`
+//! leads from the moment before a cycle to the moment at which the cycle's notes have begun, and `end_cycle`
+//! to the moment after it. Between the two, the performer of the notes passes in the result of the serial
+//! run, which by `serial_runs_perform` is the cycle's performance (`StandsFor`, specs/Standing). The caller
+//! owns the voices and cells. The order in which memory is allocated, and how tables and waiting notes are
+//! found, may be changed without anyone above noticing.
 //!
-//! Modules in reading order: `life` (what is kept), `starting` (a note starts), `tables` (a table is made), `leaving`
-//! (why notes leave), `begin`, `end`, `laws`.
+//! Modules in reading order: `life` (the state that is stored), `starting` (a note starts), `roster` (it joins
+//! the voices that play), `tables` (a table is made), `leaving` (why notes leave), `begin`, `end`, `laws`.
 #![tactic(auto)]
 
 mod begin;
@@ -15,6 +16,7 @@ mod end;
 mod laws;
 mod leaving;
 mod life;
+mod roster;
 mod starting;
 mod tables;
 

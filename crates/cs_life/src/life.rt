@@ -1,4 +1,4 @@
-// What is kept of a performance beside its cells and the voices of its notes.
+// The state of a performance without its cells and the voices of its notes.
 ghost use Rattle.std.specs.Prelude.{◌≡◌, [], false, pos, replicate, IfOk, OnOk};
 ghost use Rattle.cs_cells.specs.{Access.AllowsBelow, Areas.word_count, Cells.cell};
 ghost use Rattle.cs_piece_meaning.specs.Course.{opening, outside_done};
@@ -12,12 +12,13 @@ use cs_sched::Pending;
 use cs_voice::{NewNote, Stage, start};
 use std::alloc::Global;
 
-/// What is kept of a performance. `StandsFor` (specs/Standing) says at which moments it stands.
+/// The state of a performance. `StandsFor` (specs/Standing) says which moments of the performance it
+/// represents.
 #[derive(Drop)]
 pub struct Life<'t> {
     pub(crate) setup: &'t Setup,
     pub(crate) stage: Stage<'t>,
-    /// Of each table, whether it has been made.
+    /// For each table, whether it has been made.
     pub(crate) made: Vec<bool>,
     pub(crate) pending: Pending,
     pub(crate) started: u64,
@@ -25,7 +26,7 @@ pub struct Life<'t> {
 }
 
 impl<'t> Life<'t> {
-    /// The opening of a performance of `setup`: the code outside instruments runs once over the cells of `bank`, all
+    /// Opens a performance of `setup`: the code outside of instruments runs once on the cells of `bank`, all
     /// of which are 0.
     pub fn new<B: Bank>(
         alloc: Global,
@@ -52,21 +53,21 @@ impl<'t> Life<'t> {
         })
     }
 
-    /// The layout of which the notes' footprints name areas.
+    /// Returns the layout whose areas the notes' footprints name.
     pub fn zones(&self) -> &'t Layout
         ensures { result.now ≡ self.now.stage.zones.now }
     {
         self.stage.zones
     }
 
-    /// How many starts there were that started a note, also those of no cycle.
+    /// Returns the number of starts that started a note, including notes that last no cycle.
     pub fn started(&self) -> u64
         ensures { result ≡ self.now.started }
     {
         self.started
     }
 
-    /// How many starts there were that started nothing.
+    /// Returns the number of starts that started nothing.
     pub fn not_started(&self) -> u64
         ensures { result ≡ self.now.not_started }
     {
@@ -74,15 +75,15 @@ impl<'t> Life<'t> {
     }
 }
 
-/// No table of `count` has been made yet.
+// Returns flags for `count` tables, none of which has been made yet.
 fn none_made(alloc: Global, count: usize) -> Result<Vec<bool>, OutOfMemory>
     ensures { IfOk result (λ v. v.items ≡ replicate count false) }
 {
     Ok(vec![in alloc; false; count]?)
 }
 
-/// The code outside instruments runs once. The voice that it makes, what it is refused for and what it asks for are
-/// let go: what notes share alone stays.
+// Runs the code outside of instruments once. The voice that it makes, the reason for a refusal and the notes
+// that it schedules are dropped: only what notes share stays.
 fn begin_outside<'t, B: Bank>(
     alloc: Global,
     setup: &'t Setup,

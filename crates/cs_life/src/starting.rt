@@ -1,4 +1,4 @@
-// A note starts: it is initialised, what it asks for waits, and it takes its place among those that play.
+// The start of a note: it is initialised, the notes that it schedules wait, and it joins those that play.
 ghost use Rattle.std.specs.Prelude.{◌≡◌, ◌+◌, ◌==◌, ◌||◌, ℕ, ℤ, pos, true, List, OnOk, nat_lt, slice_index_or};
 ghost use Rattle.cs_base.specs.Limits.{most_notes};
 ghost use Rattle.cs_cells.specs.{Access.AllowsBelow, Areas.word_count, Cells.Cells};
@@ -9,34 +9,23 @@ ghost use Rattle.cs_life.specs.inner.Starting.{IsBegun, Wait, all_wanted, count_
 ghost use Rattle.cs_meaning.specs.{Core.Block, Notes.Note, Plain.Plain};
 ghost use Rattle.cs_sched.specs.Times as times;
 ghost use Rattle.cs_piece.specs.{Ready.IsInstrumentOf, Setups.composition_of};
-ghost use Rattle.cs_roster.specs.Roster.{Grew};
+ghost use Rattle.cs_life.specs.inner.Roster.{Grew};
 ghost use Rattle.cs_voice.specs.VoiceData.{VoiceData};
 
 use crate::life::Life;
+use crate::roster::join;
 use cs_base::{MOST_NOTES, Num, OutOfMemory};
 use cs_cells::{Bank, Job};
 use cs_ir::Ask;
 use cs_piece::Playable;
-use cs_roster::{Numbering, join};
 use cs_sched::{Added, Asking, Due, Pending};
 use cs_voice::{NewNote, Started, Voice, start};
 use std::alloc::Global;
 
-/// Voices play in the order of their instruments' numbers.
-pub(crate) struct ByInstrument;
-
-impl<'t> Numbering<Voice<'t>> for ByInstrument {
-    ghost number = { λ v. v.number };
-
-    fn number(voice: &Voice<'t>) -> u32 {
-        voice.number()
-    }
-}
-
 impl<'t> Life<'t> {
-    /// A note starts in its cycle. Where its instrument isn't there, where it would be one note too many, and where
-    /// its initialisation is refused, the start counts as one that started nothing. Where memory is refused, nothing
-    /// is promised of the voices.
+    /// Starts a note in its cycle. If its instrument doesn't exist, if there is no room for it, or if its
+    /// initialisation is refused, the start counts as one that started nothing. If memory runs out, nothing
+    /// is promised about the voices.
     pub(crate) fn start_note<B: Bank>(
         &mut self,
         alloc: Global,
@@ -71,7 +60,7 @@ impl<'t> Life<'t> {
         }
     }
 
-    /// One start more that started nothing.
+    // Counts one more start that started nothing.
     fn start_nothing(&mut self)
         ensures counted { (c : Composition) (voices : List VoiceData) (cells : Cells) (m : Moment)
             → StandsFor c self.old voices cells m
@@ -81,7 +70,8 @@ impl<'t> Life<'t> {
         self.not_started = self.not_started.saturating_add(1);
     }
 
-    /// A note for which there is room is initialised; what it asked for waits, and it takes its place.
+    // Initialises a note for which there is room; the notes that it schedules wait, and it joins those that
+    // play.
     fn begin<B: Bank>(
         &mut self,
         alloc: Global,
@@ -137,8 +127,8 @@ impl<'t> Life<'t> {
         self.enter(begun, cycles, voices)
     }
 
-    /// A note that was initialised takes its place, where it lasts any cycle, or has started nothing, where it was
-    /// refused.
+    // Adds a note that was initialised to those that play if it lasts any cycle, or counts a start that
+    // started nothing if it was refused.
     fn enter(
         &mut self,
         begun: Started<'t>,
@@ -158,22 +148,22 @@ impl<'t> Life<'t> {
             self.start_nothing();
             return Ok(());
         };
-        // What is so of each voice is so of this one.
+        // For the prover: the invariant of voices holds for this one.
         let _ = voice.footprint();
-        join::<ByInstrument, _>(voice, cycles, voices)?;
+        join(voice, cycles, voices)?;
         self.started = self.started.saturating_add(1);
         Ok(())
     }
 }
 
-/// Whether a note that lasts `cycles` cycles may start where `playing` others play.
+// Returns whether a note that lasts `cycles` cycles may start while `playing` other notes play.
 fn has_room(cycles: u32, playing: usize) -> bool
     ensures { result ≡ (cycles == 0 || nat_lt playing most_notes) }
 {
     cycles == 0 || playing < MOST_NOTES
 }
 
-/// The second p-field, the seconds at which a note begins; 0 where there is none.
+// Returns the second p-field, the start time of a note in seconds, or 0 if there is none.
 fn time_of(fields: &[Num]) -> Num
     ensures { result ≡ slice_index_or fields.now 1 (pos 0) }
 {
@@ -183,14 +173,15 @@ fn time_of(fields: &[Num]) -> Num
     }
 }
 
-/// The cycle in which a note has ended that begins in `cycle` and lasts `cycles` cycles.
+// Returns the cycle in which a note has ended that begins in `cycle` and lasts `cycles` cycles.
 fn end_of(cycle: u32, cycles: u32) -> u64
     ensures { result ≡ cycle + cycles }
 {
     u64::from(cycle) + u64::from(cycles)
 }
 
-/// The notes that a note asks for wait; each that isn't kept counts as a start that started nothing.
+// Lets the notes that a note schedules wait; each one that can't be stored counts as a start that started
+// nothing.
 fn ask_all(
     alloc: Global,
     asks: Vec<Ask>,
@@ -209,7 +200,7 @@ fn ask_all(
     Ok(())
 }
 
-/// The count of starts that started nothing, after an answer.
+// Returns the count of starts that started nothing, after the result of scheduling a note.
 fn count_after(answer: Added, count: u64) -> u64
     ensures { result ≡ count_after answer count }
 {

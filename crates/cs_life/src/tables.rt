@@ -20,8 +20,8 @@ use cs_voice::PieceTable;
 use std::alloc::Global;
 
 impl<'t> Life<'t> {
-    /// Makes a table: each of its number has been made from now on, and where the points of the first are cells, they
-    /// are its points.
+    /// Makes a table: every table with its number has been made from now on, and if the points of the first
+    /// one are cells, they are set to its points.
     pub(crate) fn make_table<B: Bank>(
         &mut self,
         alloc: Global,
@@ -51,7 +51,7 @@ impl<'t> Life<'t> {
     }
 }
 
-/// Each table of a number has been made.
+// Marks each table with a number as made.
 fn mark(tables: &[PieceTable], number: usize, flags: &mut Vec<bool>)
     requires { length flags.old.items ≡ length tables.now }
     ensures { flags.new.items ≡ marked number tables.now flags.old.items }
@@ -63,7 +63,7 @@ fn mark(tables: &[PieceTable], number: usize, flags: &mut Vec<bool>)
     }
 }
 
-/// Whether there is a table of a number, and the points of the first are cells.
+// Returns whether there is a table with a number and the points of the first one are cells.
 fn has_cells(tables: &[PieceTable], number: usize) -> bool
     ensures { result ≡ has_cells tables.now number }
 {
@@ -76,7 +76,7 @@ fn has_cells(tables: &[PieceTable], number: usize) -> bool
     false
 }
 
-/// The points of a table are written into its area.
+// Writes the points of a table into its area.
 fn put<B: Bank>(layout: &Layout, number: usize, points: &[Num], bank: &mut B)
     requires there { (area : Area) × (area_of layout.now (res.Table number) ≡ Some area)
         × (length points.now ≡ area.length)

@@ -14,7 +14,7 @@ use Rattle.cs_machine.proofs.Putting.{lengths_kept, set_at_place}
 use Rattle.cs_signal.specs.Operands.{argument}
 use Rattle.cs_words.specs.declared.sign.BinOp.TheVariants as op
 
--- a row that has the frames of a value that is 0 behind its end is that value
+-- a row with the frames of a value that is 0 after its end is that value
 pub row_all : (n : ℕ) (w : Wave) (row : List ℤ) → length row ≡ n → HasFrames w row → ((j : ℕ) → n ≤ j → w j ≡ pos 0)
     → row_wave row ≡ w
 row_all n w row long frames ends = λ i j. at j i
@@ -34,7 +34,7 @@ sum_ends n j x y lx ly far =
     ap (λ z. both op.Add (λ i. z) (row_wave y) j) (past n j x lx far)
     ∙ ap (λ z. both op.Add silence (λ i. z) j) (past n j y ly far)
 
--- a channel's row was replaced by its sum with another: it has that value, and no other channel has changed
+-- a channel's row was replaced by its sum with another: the channel has the sum, and no other has changed
 pub gave : (old : ChannelFile) (c : ℕ) (row sum : List ℤ) → AreRows old.ksmps old.rows → c < length old.rows
     → length row ≡ old.ksmps
     → HasFrames (both op.Add (outs old c) (row_wave row)) sum → length sum ≡ length (slice_index_or old.rows c [])
@@ -59,12 +59,12 @@ gave old c row sum all low long frames same = record {
         ∙ ap (λ b. if b then sum else slice_index_or old.rows n []) no)
         ∙ sym (ap (λ b. if b then both op.Add (outs old n) (row_wave row) else outs old n) no))
 
--- a channel that nothing was given to is silent
+-- a channel to which nothing was written is silent
 pub zeros_at : (rows : List (List ℤ)) (c n : ℕ) → slice_index_or rows c [] ≡ replicate n (pos 0)
     → row_wave (slice_index_or rows c []) ≡ silence
 zeros_at rows c n e = ap row_wave e ∙ zeros_silent n
 
--- one more channel was cleared: those before it are silent, and each has its length
+-- one more channel was cleared: those before it are silent, and each keeps its length
 pub cleared_more : (rows : List (List ℤ)) (n k : ℕ) (row : List ℤ) → k < length rows → row ≡ replicate n (pos 0)
     → ((m : ℕ) → m < k → row_wave (slice_index_or rows m []) ≡ silence) → (m : ℕ) → m < k + 1
     → row_wave (slice_index_or (slice_set rows k row) m []) ≡ silence
@@ -85,12 +85,12 @@ length_kept rows n k row low is all m less =
     lengths_kept rows k row low (ap length is ∙ length-replicate (length (slice_index_or rows k [])) (pos 0)) m
     ∙ all m (let e : length (slice_set rows k row) ≡ length rows = length-set rows k row in omega (arith, e, less))
 
--- what follows where there is none
+-- an implication inside of IfNone
 pub if_none : {A P Q : Type 0} (o : Option A) → (P → Q) → IfNone o P → IfNone o Q
 if_none None f h = f h
 if_none (Some x) f h = h
 
--- what channels have is all that they are
+-- channels are determined by their values
 pub refilled_again : (f : ChannelFile) → AreRows f.ksmps f.rows → refilled f (outs f) ≡ f
 refilled_again f all = λ t. record f { rows = same t }
   where

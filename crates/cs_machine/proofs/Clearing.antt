@@ -66,7 +66,7 @@ module _ {X : Type 0} where
 
 -- ---- cells
 
--- where nothing is to be cleared all stays
+-- if nothing is to be cleared, all cells stay the same
 pub nothing_cleared : (areas : List Area) (test : Res → Bool) (cells : ℕ → ℤ) → ((g : Res) → test g ≡ false)
     → cells ≡ cleared_in areas test cells
 nothing_cleared areas test cells none = λ i a. sym (at a) i
@@ -75,7 +75,7 @@ nothing_cleared areas test cells none = λ i a. sym (at a) i
     at a = ap (λ b. if b then pos 0 else cells a) (any_none (λ (x : Area). in_area (Some x) a && test x.res) areas
         (λ x. ap (λ b. in_area (Some x) a && b) (none x.res) ∙ and-false (in_area (Some x) a)))
 
--- what is cleared by one test and then by another is cleared by both
+-- clearing by one test and then by another is clearing by both
 pub cleared_twice : (areas : List Area) (p q r : Res → Bool) (cells : ℕ → ℤ) → ((g : Res) → r g ≡ (p g || q g))
     → cleared_in areas q (cleared_in areas p cells) ≡ cleared_in areas r cells
 cleared_twice areas p q r cells same = λ i a. at a i
@@ -137,7 +137,7 @@ has_area areas spaces s n are zak low = some_area (area_of areas (zak_place s n)
     some_area None e h = absurd (let no : false ≡ true = sym (ap is_some e) ∙ h in cc)
     some_area (Some x) e h = (x, e)
 
--- from a number on and before it there is none
+-- no number is from m on and below n
 none_between : (m n : ℕ) → (nat_le m n && nat_lt n m) ≡ false
 none_between m n = by_test (nat_lt n m)
     (λ less. let before : nat_le m n ≡ false = grind (arith, nat_tests) in λ i. before i && less i)
@@ -148,7 +148,7 @@ none_cleared space.Control r m (res.ZakK n) = ap (λ b. reaches r n && b) (none_
 none_cleared space.Audio r m (res.ZakA n) = ap (λ b. reaches r n && b) (none_between m n) ∙ and-false (reaches r n)
 none_cleared s r m g = refl
 
--- one number more
+-- one more number
 number_more : (test : ℕ → Bool) (m n i : ℕ) → m ≤ n → (test i && (nat_le m i && nat_lt i (n + 1)))
     ≡ ((test i && (nat_le m i && nat_lt i n)) || (test n && (i == n)))
 number_more test m n i low = by_test (i == n) (λ yes. subst (λ k. (test k && (nat_le m k && nat_lt k (n + 1)))
@@ -172,7 +172,7 @@ number_more test m n i low = by_test (i == n) (λ yes. subst (λ k. (test k && (
         (λ less. let more : nat_lt i (n + 1) ≡ true = grind (arith, nat_tests) in more ∙ sym less)
         (λ past. let not_more : nat_lt i (n + 1) ≡ false = grind (arith, nat_tests) in not_more ∙ sym past)
 
--- one place more
+-- one more place
 pub clears_more : (s : Space) (r : Reach) (m n : ℕ) → m ≤ n → (g : Res)
     → clears s r m (n + 1) g ≡ (clears s r m n g || (reaches r n && same_res g (zak_place s n)))
 clears_more space.Control r m n low (res.ZakK i) = number_more (reaches r) m n i low
@@ -181,7 +181,7 @@ clears_more s r m n low g = sym (and-false (reaches r n))
 
 -- ---- the numbers that are cleared are those between the two values
 
--- a number lies between two values where it lies between their whole parts
+-- whether a number is between two values, by their integer parts
 lies_between : Option ℕ → Option ℕ → ℕ → Bool
 lies_between None None n = false
 lies_between (Some m) None n = false
@@ -207,7 +207,7 @@ between_is (pos x) (negsuc y) n =
 between_is (negsuc x) (pos y) n = not_less_is n (y / 65536) ∙ sym (ap (λ o. lies_between None o n) (index_pos y))
 between_is (negsuc x) (negsuc y) n = refl
 
--- a number among so many comes before the end where it isn't above the last
+-- a number below the count is before the end if and only if it isn't above the last
 before_end : (count k n : ℕ) → n < count → nat_lt n (end_of count (Some k)) ≡ nat_le n k
 before_end count k n low = by_test (nat_lt k count) (λ yes. ap (λ b. nat_lt n (if b then k + 1 else count)) yes ∙ next)
     (λ no. ap (λ b. nat_lt n (if b then k + 1 else count)) no ∙ all no)
@@ -243,7 +243,7 @@ within_is count (Some m) (Some k) n low = by_test (nat_lt n (end_of count (Some 
     ∙ and-false (nat_le (from_of (end_of count (Some k)) (Some m)) n)
     ∙ sym (ap (λ b. nat_le m n && b) (sym (before_end count k n low) ∙ no) ∙ and-false (nat_le m n)))
 
--- a place that has an area is one of its space
+-- a place with an area is one of its space
 module _ (areas : List Area) (piece : Piece) (spaces : Spaces) (are : AreSpaces areas) (zak : spaces_of areas ≡ spaces)
     (same : piece.spaces ≡ spaces) where
   abbrev end : Space → ℤ → ℕ

@@ -13,7 +13,7 @@ use Rattle.cs_machine.specs.Access.{live_points}
 use Rattle.cs_machine.proofs.Writing.{frame_in}
 use Rattle.cs_base.specs.declared.resource.Rate.TheVariants as rate
 
--- a table has a power of two of points, or one more: at least two
+-- a table has at least two points: a power of two, or one more
 len_most : (n : ℕ) → len_of n ≤ n
 len_most n = omega arith
 
@@ -77,7 +77,7 @@ module _ (area : Area) (cells : ℕ → ℤ) where
       (len_of area.length) front_long ∙ ap (λ n. argument (live_points area cells) (guard_place n)) points_long
       ∙ point (guard_place area.length) (guard_within area.length power)
 
-  -- what is read at a place, whichever cell it stands in
+  -- what is read at an index, from any cell
   pub read_there : (place k : ℕ) (z : ℤ) → place < len_of area.length → k ≡ place → z ≡ cells (area.first + k)
       → z ≡ argument (curve_of (live_points area cells)) place
   read_there place k z low same is = is ∙ ap (λ n. cells (area.first + n)) same ∙ sym (live_point place low)

@@ -1,4 +1,4 @@
--- What an act leaves of a state: the same room, and one register that was written.
+-- How an act changes a state: the same sizes, and one register that was written.
 use Rattle.std.proofs.Common.{◌≡◌, ℕ, ℤ, List, length, map, Option, None, slice_index_or, refl, sym, ◌∙◌, ap}
 use Rattle.cs_ir.specs.{Registers.rate_at, Machine.Machine, Machine.acts, Machine.put, Machine.write, Waves.Wave}
 use Rattle.cs_ir.specs.{Waves.held, declared.op.Act.Act, declared.register.Counts.Counts, declared.register.Reg.Reg}
@@ -9,7 +9,7 @@ use Rattle.cs_voice_meaning.specs.{Follows.Kinds, VoiceWorld.VoiceState, VoiceWo
 use Rattle.cs_machine.specs.declared.state.NoteSetting.{NoteSetting}
 use Rattle.cs_machine.specs.States.{machine_of, unit_at, HasRoom, IsSettingOf, IsStateIn, Does, DoesAt}
 
--- as much room, and the same units
+-- the same sizes, and the same units
 pub record SameRoom (old new : State) : Type 0 where
   pub counts : new.regs.counts ≡ old.regs.counts
   pub frames : new.regs.ksmps ≡ old.regs.ksmps
@@ -18,7 +18,7 @@ pub record SameRoom (old new : State) : Type 0 where
   pub players : new.players.items ≡ old.players.items
   pub row : length new.row.items ≡ old.regs.ksmps
 
--- such a state still is one of its code and piece
+-- such a state still belongs to its code and piece
 pub still_in : (areas : List Area) (piece : Piece) (kinds : Kinds) (counts : Counts) (old new : State)
     → SameRoom old new → IsStateIn areas piece kinds counts old → IsStateIn areas piece kinds counts new
 still_in areas piece kinds counts old new same state = record {
@@ -31,7 +31,7 @@ still_in areas piece kinds counts old new same state = record {
   players = λ u p is. state.players u p (ap (λ ps. slice_index_or ps u None) (sym same.players) ∙ is);
 }
 
--- a state of a piece has the room that calls ask for
+-- a state of a piece has the sizes that calls require
 pub has_room : (areas : List Area) (piece : Piece) (kinds : Kinds) (counts : Counts) (s : State)
     → IsStateIn areas piece kinds counts s → HasRoom s
 has_room areas piece kinds counts s state = record {
@@ -39,14 +39,14 @@ has_room areas piece kinds counts s state = record {
   channels = state.channel_frames ∙ sym state.frames;
 }
 
--- the units, channels, delays and the end are those that a state had
+-- the units, channels, delays and the end are as in the earlier state
 pub record KeepsRest (old new : State) : Type 0 where
   pub players : new.players.items ≡ old.players.items
   pub outs : new.outs ≡ old.outs
   pub delays : new.delays ≡ old.delays
   pub ended : new.ended ≡ old.ended
 
--- the machine of a state of which one register was written
+-- the machine of a state after one register was written
 pub written_machine : (ksmps : ℕ) (old new : State) (into : Reg) (w : Wave) → KeepsRest old new → old.regs.ksmps ≡ ksmps
     → IsWritten old.regs into w new.regs → (before after : ℕ → ℤ) → after ≡ before
     → (next : ℕ) (asks : List (List ℤ)) (cause : Option Cause)
@@ -65,7 +65,7 @@ written_machine ksmps old new into w rest frames written before after same next 
   };
 }
 
--- where one register was written there is as much room
+-- the sizes are the same after one register was written
 pub written_room : (old new : State) (into : Reg) (w : Wave) → KeepsRest old new → IsWritten old.regs into w new.regs
     → length new.row.items ≡ old.regs.ksmps → SameRoom old new
 written_room old new into w rest written row = record {
@@ -77,7 +77,7 @@ written_room old new into w rest written row = record {
   row = row;
 }
 
--- An act that writes one register is done by a state of which it was written.
+-- An act that writes one register is done if the state is the earlier one with that register written.
 pub writes : {areas : List Area} {piece : Piece} {kinds : Kinds} {counts : Counts} {act : Act} {into : Reg}
     {from : List Reg} (w : Wave) {old new : State} {before after : ℕ → ℤ} → KeepsRest old new → after ≡ before
     → IsStateIn areas piece kinds counts old
@@ -94,7 +94,7 @@ writes {areas} {piece} {kinds} {counts} {act} {into} {from} w {old} {new} {befor
       state = still_in areas piece kinds counts old new (written_room old new into w rest written row) state;
     }
 
--- so it is in a setting, with what the setting says
+-- the same in a setting, with what the setting says
 pub writes_at : {at : NoteSetting} {act : Act} {into : Reg} {from : List Reg} (w : Wave) {old new : State}
     → KeepsRest old new → IsWritten old.regs into w new.regs → length new.row.items ≡ old.regs.ksmps
     → ((areas : List Area) (piece : Piece) (m : Machine VoiceState) → IsSettingOf at areas piece
@@ -104,7 +104,7 @@ writes_at {at} {act} {into} {from} w {old} {new} rest written row does areas pie
     writes w rest refl state written row (λ next asks cause. does areas piece (machine_of old cells next asks cause)
     setting)
 
--- An act that changes cells alone is done where they change as it says.
+-- An act that changes only cells is done if they change as its definition says.
 pub record KeepsMachine (old new : State) : Type 0 where
   pub regs : new.regs ≡ old.regs
   pub rest : KeepsRest old new

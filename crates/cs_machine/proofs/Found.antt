@@ -11,7 +11,7 @@ use Rattle.cs_voice_meaning.specs.Placing.{area_of}
 use Rattle.cs_voice_meaning.proofs.Placed.{area_at}
 use Rattle.cs_base.specs.declared.limit.Limit.TheVariants as limit
 
--- by a test that is known
+-- if with a condition that is known
 pub if_true : {A : Type 0} (b : Bool) (x y : A) → b ≡ true → (if b then x else y) ≡ x
 if_true true x y e = refl
 if_true false x y e = absurd cc
@@ -20,7 +20,7 @@ pub if_false : {A : Type 0} (b : Bool) (x y : A) → b ≡ false → (if b then 
 if_false true x y e = absurd cc
 if_false false x y e = refl
 
--- a resource that has a place has an area
+-- a resource with an index has an area
 some_first : (areas : List Area) (g : Res) (place : ℕ) → HasPlace areas g place
     → (b : Area) × (area_of areas g ≡ Some b)
 some_first [] g place h = absurd (let e = h.1 in cc)
@@ -39,7 +39,7 @@ at_one : (areas : List Area) (p q : ℕ) (a b : Area) → p ≡ q → slice_get 
     → a ≡ b
 at_one areas p q a b e f g = let h : slice_get areas p ≡ slice_get areas q = ap (slice_get areas) e in cc
 
--- the area at a resource's place is the resource's
+-- the area at a resource's index is the resource's
 pub found : (areas : List Area) (g : Res) (place : ℕ) (a : Area) → IsLaid areas → HasPlace areas g place
     → slice_get areas place ≡ Some a → Some a ≡ area_of areas g
 found areas g place a laid h at =
@@ -55,12 +55,12 @@ not_found areas g none = by (area_of areas g) refl
     by None e = sym e
     by (Some b) e = absurd (let there = area_at areas g b e in none there.0 (b, there.1, there.2))
 
--- an area of a layout is that of its resource
+-- an area of a layout belongs to its resource
 pub own : (areas : List Area) (place : ℕ) (a : Area) → IsLaid areas → slice_get areas place ≡ Some a
     → area_of areas a.res ≡ Some a
 own areas place a laid at = sym (found areas a.res place a laid (a, at, refl) at)
 
--- what is within the limits has at most so many cells
+-- a layout within the limits has at most the limit's number of cells
 no_limit : {A : Type 0} (a b : Bool) (x y : A) → (if a then Some x else (if b then Some y else None)) ≡ None → b ≡ false
 no_limit true b x y e = absurd cc
 no_limit false true x y e = absurd cc

@@ -1,4 +1,4 @@
--- Rows that are filled place by place, and the values that they have.
+-- Rows that are filled index by index, and the values that they have.
 use Rattle.std.proofs.Common.{◌≡◌, ℕ, ℤ, pos, ◌+◌, ◌<◌, ◌≤◌, ◌≢◌, ◌==◌, false, List, length, take, drop, ◌++◌}
 use Rattle.std.proofs.Common.{replicate, nat_lt, slice_index_or, slice_set, if◌then◌else◌, refl, sym, ◌∙◌, ap, arith}
 use Rattle.std.proofs.{Common.subst, Common.ltb-true, Math.Seq.take-append_seam}
@@ -14,7 +14,7 @@ use Rattle.cs_base.specs.declared.resource.Rate.TheVariants as rate
 pub apart : (m n : ℕ) → (m == n) ≡ false → m ≢ n
 apart m n h = grind (arith, nat_tests)
 
--- one more place of a row has its frame
+-- one more index of a row has its frame
 pub one_more : (w : Wave) (row : List ℤ) (j : ℕ) (z : ℤ) → j < length row → Begins j w row → z ≡ w j
     → Begins (j + 1) w (slice_set row j z)
 one_more w row j z low done here i h = by_test (i == j)
@@ -23,7 +23,7 @@ one_more w row j z low done here i h = by_test (i == j)
     (λ no. let n : i ≢ j = apart i j no in
     get_or-set_other row j i z (pos 0) n ∙ done i (let m : i < j = grind (arith, nat_tests) in m))
 
--- all places have theirs
+-- all indexes have theirs
 pub all_done : (w : Wave) (row : List ℤ) (j n : ℕ) → length row ≡ n → n ≤ j → Begins j w row → HasFrames w row
 all_done w row j n long far done i h = done i (omega (arith, long, far, h))
 
@@ -41,7 +41,7 @@ row_held n w row long frames = λ i j. at j i
         (λ no. let far : n ≤ j = at_or_past j n no in
         get_or_past row j (pos 0) (omega (arith, far, long)) ∙ sym (ap (λ b. if b then w j else pos 0) no))
 
--- a row held for a cycle is itself
+-- a row that is held for a cycle is itself
 pub held_row : (n : ℕ) (row : List ℤ) → length row ≡ n → held n rate.Audio (row_wave row) ≡ row_wave row
 held_row n row long = sym (row_held n (row_wave row) row long (λ j h. refl))
 
@@ -64,7 +64,7 @@ row_again n row long = ext_get_or (pos 0) (row_of n (row_wave row)) row
     (let e : length (row_of n (row_wave row)) ≡ n = length-map-range_with_len (row_wave row) 0 n in omega (arith, h, e))
     (omega arith))
 
--- a place of a row that was set isn't one behind it
+-- setting one element of a row doesn't change those after it
 pub others_kept : (j : ℕ) (before row : List ℤ) (z : ℤ) → Ends j before row → Ends (j + 1) before (slice_set row j z)
 others_kept j before row z same i h = get_or-set_other row j i z (pos 0) (behind i j h) ∙ same i (omega (arith, h))
   where
@@ -84,17 +84,17 @@ frames_as w v row h same j low = h j low ∙ same j
 pub item_is : (xs : List ℤ) (j : ℕ) (x : ℤ) → j < length xs → x ≡ slice_index_or xs j x → x ≡ argument xs j
 item_is xs j x low is = get_or_read xs j x low is (pos 0)
 
--- a vector whose items were all written over has these
+-- a vector all of whose items were overwritten has the new items
 pub all_written : {A : Type 0} (n : ℕ) (new old : List A) → length new ≡ n → take n (new ++ drop (length new) old) ≡ new
 all_written n new old long =
     ap (λ k. take k (new ++ drop (length new) old)) (sym long) ∙ take-append_seam new (drop (length new) old)
 
--- it has the frames that were written
+-- the vector has the frames that were written
 pub vector_frames : (w : Wave) (n : ℕ) (new old : List ℤ) → length new ≡ n → HasFrames w new
     → HasFrames w (take n (new ++ drop (length new) old))
 vector_frames w n new old long = subst (HasFrames w) (sym (all_written n new old long))
 
--- and as many as these
+-- the vector has as many items as were written
 pub vector_long : (n k : ℕ) (new old : List ℤ) → length new ≡ n → length new ≡ k
     → length (take n (new ++ drop (length new) old)) ≡ k
 vector_long n k new old long is = ap length (all_written n new old long) ∙ is

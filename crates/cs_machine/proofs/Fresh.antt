@@ -1,4 +1,4 @@
--- A state that was just made.
+-- A new state.
 use Rattle.std.proofs.Common.{◌≡◌, ◌∙◌, ℕ, ◌<◌, ◌≤◌, length, replicate, nat_lt, Option, None, Some, arith, ltb-true}
 use Rattle.std.proofs.Common.{slice_index_or, sym}
 use Rattle.std.specs.Option.{option_map}

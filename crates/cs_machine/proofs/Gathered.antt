@@ -1,4 +1,4 @@
--- Arguments that stand for registers give a unit what the registers are.
+-- Arguments that are registers: a unit receives the registers' values.
 use Rattle.std.proofs.Common.{◌≡◌, ℕ, zero, suc, ◌<◌, ◌≤◌, true, List, [], ◌∷◌, ◌++◌, length, map, nat_le, take, get_or}
 use Rattle.std.proofs.Common.{slice_get, ℤ, Bool, Some, None, refl, sym, ◌∙◌, ap, subst, arith}
 use Rattle.std.specs.List.{All, list_all}
@@ -20,20 +20,20 @@ few_test = of_all (λ o. nat_le (moving_count o) 7) refl
 pub few : (k : UnitState) (n : ℕ) → n ≡ moving_count (opcode_of k) → n ≤ 7
 few k n e = subst (λ m. m ≤ 7) (sym e) (let h = few_test (opcode_of k) in grind (arith, nat_tests))
 
--- what stands at a place of a list is one of it
+-- an element at an index of a list satisfies what all elements do
 pub each_read : {A : Type 0} (p : A → Bool) (xs : List A) (n : ℕ) (x : A) → list_all p xs ≡ true
     → slice_get xs n ≡ Some x → p x ≡ true
 each_read p [] n x all is = absurd (cc)
 each_read p (y ∷ xs) zero x all is = ap p (sym (some_is y x is)) ∙ (and_parts (p y) (list_all p xs) all).0
 each_read p (y ∷ xs) (suc n) x all is = each_read p xs n x (and_parts (p y) (list_all p xs) all).1 is
 
--- nothing is missing before the end
+-- an index without an element is at the end or after it
 pub none_past : {A : Type 0} (xs : List A) (n : ℕ) → slice_get xs n ≡ None → length xs ≤ n
 none_past [] n is = omega arith
 none_past (y ∷ xs) zero is = absurd (cc)
 none_past (y ∷ xs) (suc n) is = let far = none_past xs n is in omega (arith, far)
 
--- each of seven operands stands for its register
+-- each of seven operands has the value of its register
 pub seven_stand : (f : Reg → Wave) (rs : List Reg) (a b c d e g h : Operand)
     → (0 < length rs → HoldsOperand f a (get_or rs 0 no_register))
     → (1 < length rs → HoldsOperand f b (get_or rs 1 no_register))
@@ -79,7 +79,7 @@ seven_last P a b c d e g h x0 x1 x2 x3 x4 x5 x6 =
     (All-cons P b (c ∷ d ∷ e ∷ g ∷ h ∷ []) x1 (All-cons P c (d ∷ e ∷ g ∷ h ∷ []) x2 (All-cons P d (e ∷ g ∷ h ∷ []) x3
     (All-cons P e (g ∷ h ∷ []) x4 (All-cons P g (h ∷ []) x5 (All-cons P h [] x6 (All-nil P)))))))
 
--- operands that stand for registers, as many of them, are what the registers are
+-- operands with the values of registers, as many of them, are the registers' values
 pub same_inputs : (f : Reg → Wave) (os : List Operand) (rs : List Reg) (points : List ℤ) → length rs ≤ length os
     → ((j : ℕ) → j < length rs → StandsAt f os rs j)
     → (λ j. units.inputs_at (take (length rs) os) j ++ points) ≡ inputs_at (map f rs) points

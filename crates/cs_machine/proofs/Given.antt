@@ -1,4 +1,4 @@
--- States of which a channel was given a row.
+-- States in which a row was written to a channel.
 use Rattle.std.proofs.Common.{◌≡◌, ℕ, ℤ, ◌-◌, ◌&&◌, Bool, true, false, List, length, map, nat_le, Option, Some, None}
 use Rattle.std.proofs.Common.{if◌then◌else◌, refl, sym, ◌∙◌, ap}
 use Rattle.cs_base.proofs.Tests.{some_is}
@@ -11,7 +11,7 @@ use Rattle.cs_machine.specs.{States.unit_at, States.IsStateIn, States.Does, inne
 use Rattle.cs_voice_meaning.specs.{Follows.Kinds, VoiceWorld.VoiceState, VoiceWorld.voice_world}
 use Rattle.cs_machine.proofs.Done.{still_in}
 
--- all but the channels is what a state had
+-- everything except the channels is as in the earlier state
 pub record KeepsAllButOuts (old new : State) : Type 0 where
   pub regs : new.regs ≡ old.regs
   pub players : new.players.items ≡ old.players.items
@@ -36,7 +36,7 @@ given_machine old new c w rest given cells next asks cause = λ i. record {
   };
 }
 
--- An act that gives to one channel is done by a state whose channel was given to.
+-- An act that writes to one channel is done by a state whose channel was written to.
 pub gives_to : (areas : List Area) (piece : Piece) (kinds : Kinds) (counts : Counts) (act : Act) (into : Reg)
     (from : List Reg) (c : ℕ) (w : Wave)
     (old new : State) (cells : ℕ → ℤ) → KeepsAllButOuts old new → IsStateIn areas piece kinds counts old
@@ -56,7 +56,7 @@ gives_to areas piece kinds counts act into from c w old new cells rest state giv
   }) state;
 }
 
--- what is given to the channel of a number, and nothing where there is no such channel
+-- what is written to the channel with a number
 pub numbered_channel : (channels : ℕ) (number : Option ℕ) (c : ℕ) (w : Wave) (x : VoiceState)
     → channel_below channels number ≡ Some c → out_to_numbered channels number w x ≡ out_to c w x
 numbered_channel channels None c w x h = cc
@@ -66,7 +66,7 @@ numbered_channel channels (Some n) c w x h = at (nat_le 1 n && nat_le n channels
     at true e = ap (λ k. out_to k w x) (some_is (n - 1) c e)
     at false e = cc
 
--- nothing is given where there is no such channel
+-- nothing is written if there is no such channel
 pub numbered_nowhere : (channels : ℕ) (number : Option ℕ) (w : Wave) (x : VoiceState)
     → ((c : ℕ) → channel_below channels number ≡ Some c → ⊥) → out_to_numbered channels number w x ≡ x
 numbered_nowhere channels None w x never = refl

@@ -1,4 +1,4 @@
--- Players, by where the tables of their units are.
+-- Players, by the place of their units' tables.
 use Rattle.std.proofs.Common.{◌≡◌, ◌∙◌, ◌||◌, ℕ, ℤ, List, Option, Some, ap, sym}
 use Rattle.std.specs.Option.{is_some}
 use Rattle.cs_cells.specs.{Access.Access, declared.footprint.Area.Area}
@@ -7,7 +7,7 @@ use Rattle.cs_machine.specs.{Readings.area_in, Readings.points_in, declared.play
 use Rattle.cs_machine.specs.declared.player.Reads.TheVariants as place
 use Rattle.cs_ugen.specs.{Units.opcode_of, Units.reads_table, declared.unit.UnitState.UnitState}
 
--- what a player stands for, by its fields
+-- the player that these fields represent
 abbrev pub placed : ℤ → UnitState → Reads → PlayerData
 placed table unit reads = record { table = table; state = unit; points = points_in reads; area = area_in reads }
 
@@ -27,7 +27,7 @@ pub curve_from : {p : PlayerData} {table : ℤ} {unit : UnitState} {reads found 
 curve_from is at cells = ap (λ r. curve_at (points_in r) (area_in r) cells) (sym at)
     ∙ ap (λ q. curve_at q.points q.area cells) is
 
--- a player whose table is where it was, and whose unit is of the opcode that it was of
+-- a player whose table is where it was, and whose unit has the same opcode
 pub stays_at : {p : PlayerData} {table : ℤ} {unit new : UnitState} {old points : Option (List ℤ)}
     {before area : Option Area} → (record { table = table; state = unit; points = old; area = before }) ≡ p
     → points ≡ old → area ≡ before → opcode_of new ≡ opcode_of unit

@@ -1,4 +1,4 @@
--- One register written among those of its kind.
+-- One register of its kind was written.
 use Rattle.std.proofs.Common.{◌≡◌, ℕ, ℤ, pos, zero, suc, ◌<◌, ◌≤◌, ◌+◌, ◌-◌, ◌==◌, ◌&&◌, Bool, true, false, List, []}
 use Rattle.std.proofs.Common.{◌∷◌, length, map, replicate, nat_lt, slice_set, slice_index_or, if◌then◌else◌, refl, sym}
 use Rattle.std.proofs.Common.{◌∙◌, ap, subst, arith, ltb-true}
@@ -22,7 +22,7 @@ use Rattle.cs_signal.specs.Operands.{argument}
 use Rattle.cs_base.specs.declared.resource.Rate.TheVariants as rate
 use Rattle.cs_ir.specs.declared.register.Kind.TheVariants as kind
 
--- an item of a list that was set at a place
+-- an element of a list that was set at an index
 pub set_at_place : {A : Type 0} (xs : List A) (n : ℕ) (x d : A) → n < length xs → (m : ℕ)
     → slice_index_or (slice_set xs n x) m d ≡ (if m == n then x else slice_index_or xs m d)
 set_at_place xs n x d low m = by_test (m == n)
@@ -34,7 +34,7 @@ pub through : {A B : Type 0} (f : A → B) (b : Bool) (x y : A) → f (if b then
 through f true x y = refl
 through f false x y = refl
 
--- an item of a list of lists that was set in one of them
+-- an element of a list of lists, one of which was set at an index
 pub set_in : {A : Type 0} (rows : List (List A)) (k n : ℕ) (x d : A) → k < length rows
     → n < length (slice_index_or rows k []) → (j m : ℕ)
     → slice_index_or (slice_index_or (slice_set rows k (slice_set (slice_index_or rows k []) n x)) j []) m d
@@ -68,7 +68,7 @@ sound_number kind.LocalAudio h = omega arith
 sound_number kind.TemporaryAudio h = omega arith
 sound_number k h = absurd (cc)
 
--- ---- a number written
+-- ---- a number was written
 
 module _ (ones : List (List ℤ)) (rows : List (List (List ℤ))) (q : Reg) (z : ℤ) where
   abbrev new_ones : List (List ℤ)
@@ -100,7 +100,7 @@ module _ (ones : List (List ℤ)) (rows : List (List (List ℤ))) (q : Reg) (z :
       at kind.TemporaryAudio m = other 6 m (omega arith)
       at j m = one (kind_number j) m
 
--- ---- a row written
+-- ---- a row was written
 
 module _ (ones : List (List ℤ)) (rows : List (List (List ℤ))) (q : Reg) (row : List ℤ) where
   abbrev new_rows : List (List (List ℤ))
@@ -137,7 +137,7 @@ module _ (ones : List (List ℤ)) (rows : List (List (List ℤ))) (q : Reg) (row
       at kind.TemporaryAudio m = one 1 m
       at j m = other (kind_number j) m (omega arith)
 
--- ---- registers that were just made
+-- ---- new registers
 
 pub zeros_held : (n m : ℕ) → constant (argument (replicate n (pos 0)) m) ≡ silence
 zeros_held n m = ap constant (ap (λ f. f m) (zeros_silent n))
@@ -166,9 +166,9 @@ new_silent counts ksmps = λ t q. at q.kind q.offset t
     at kind.TemporaryAudio m = zeros_sound (at_kind counts.registers kind.TemporaryAudio) ksmps m
     at k m = zeros_held (at_kind counts.registers k) m
 
--- ---- as many registers as there were
+-- ---- the numbers of registers stay the same
 
--- the lists of a list are as long as they were where one is set to one as long
+-- the lists of a list keep their lengths if one is replaced by another of its length
 pub lengths_kept : {A : Type 0} (rows : List (List A)) (k : ℕ) (own : List A) → k < length rows
     → length own ≡ length (slice_index_or rows k []) → (j : ℕ)
     → length (slice_index_or (slice_set rows k own) j []) ≡ length (slice_index_or rows j [])
@@ -270,7 +270,7 @@ new_kept counts ksmps = record {
     long (suc zero) m low = all_long (n kind.TemporaryAudio) m low
     long (suc (suc k)) m low = absurd (omega (arith, low))
 
--- rows and numbers made for the registers of each kind
+-- rows and numbers that were made for the registers of each kind
 pub five_made : (counts : Counts) (a b c d e : List ℤ) → a ≡ replicate (at_kind counts.registers kind.LocalInit) (pos 0)
     → b ≡ replicate (at_kind counts.registers kind.LocalControl) (pos 0)
     → c ≡ replicate (at_kind counts.registers kind.Kept) (pos 0)
@@ -296,7 +296,7 @@ made_kept counts ksmps ones rows e h =
     subst (λ o. AreKept o rows counts ksmps) (sym e)
     (subst (λ r. AreKept (zeros_of counts held_kinds) r counts ksmps) (sym h) (new_kept counts ksmps))
 
--- ---- what holds values is known by them
+-- ---- registers are determined by their values
 
 two : {A : Type 0} (xs : List A) (d : A) → length xs ≡ 2 → slice_index_or xs 0 d ∷ slice_index_or xs 1 d ∷ [] ≡ xs
 two (a ∷ b ∷ []) d h = refl
@@ -342,7 +342,7 @@ module _ (f : RegisterFile) (h : AreKept f.held f.sounds f.counts f.ksmps) where
       all = (λ t. rows_again kind.LocalAudio refl t ∷ rows_again kind.TemporaryAudio refl t ∷ [])
           ∙ two f.sounds [] h.sound_kinds
 
--- ---- one register written, in the words of the contract
+-- ---- one register was written, in the terms of the contract
 
 pub wrote_held : (f : RegisterFile) (q : Reg) (z : ℤ) → is_audio (rate_at q) ≡ false
     → kind_number q.kind < length f.held → q.offset < length (slice_index_or f.held (kind_number q.kind) [])
@@ -376,7 +376,7 @@ wrote_sound f q row sound long there low = record {
     row_is_held rate.Audio s = sym (held_row f.ksmps row long)
     row_is_held r s = absurd (cc)
 
--- a row that has a value's frames was swapped in: the register holds the value
+-- a row with a value's frames was swapped in: the register holds the value
 pub wrote_frames : (f g : RegisterFile) (q : Reg) (w : Wave) (row : List ℤ) → is_audio (rate_at q) ≡ true
     → length row ≡ f.ksmps → HasFrames w row → IsWritten f q (row_wave row) g → IsWritten f q w g
 wrote_frames f g q w row sound long frames wrote = record {
@@ -389,7 +389,7 @@ wrote_frames f g q w row sound long frames wrote = record {
     as_held rate.Audio s = held_row f.ksmps row long ∙ row_held f.ksmps w row long frames
     as_held r s = absurd (cc)
 
--- a held register is the same at each frame
+-- a held register has the same value at each frame
 pub held_still : (f : RegisterFile) (q : Reg) → is_audio (rate_at q) ≡ false → (j : ℕ) → values f q j ≡ values f q 0
 held_still f q slow j = at q.kind slow
   where
@@ -399,14 +399,14 @@ held_still f q slow j = at q.kind slow
     at kind.TemporaryAudio s = absurd (cc)
     at k s = refl
 
--- of a condition that is held, one of the two is chosen throughout
+-- if a condition is held, one of the two values is chosen throughout
 pub chosen_first : (c w v : Wave) → ((j : ℕ) → c j ≡ c 0) → holds (c 0) ≡ true → w ≡ chosen c w v
 chosen_first c w v still it = λ i j. sym (ap (λ b. if b then w j else v j) (ap holds (still j) ∙ it)) i
 
 pub chosen_second : (c w v : Wave) → ((j : ℕ) → c j ≡ c 0) → holds (c 0) ≡ false → v ≡ chosen c w v
 chosen_second c w v still it = λ i j. sym (ap (λ b. if b then w j else v j) (ap holds (still j) ∙ it)) i
 
--- at a rate that is held a value's first frame is all of it
+-- at a held rate the first frame of a value is all of it
 pub wrote_first : (f g : RegisterFile) (q : Reg) (w : Wave) (z : ℤ) → is_audio (rate_at q) ≡ false → z ≡ w 0
     → IsWritten f q (constant z) g → IsWritten f q w g
 wrote_first f g q w z slow first wrote = record {
@@ -419,7 +419,7 @@ wrote_first f g q w z slow first wrote = record {
     held_first rate.Audio s = absurd (cc)
     held_first r s = λ i j. first i
 
--- ---- places of registers that are there
+-- ---- indexes of registers that exist
 
 pub held_low : (ones : List (List ℤ)) (rows : List (List (List ℤ))) (counts : Counts) (ksmps : ℕ) (q : Reg)
     → AreKept ones rows counts ksmps → has_register counts q ≡ true → is_audio (rate_at q) ≡ false
@@ -435,9 +435,9 @@ sound_low ones rows counts ksmps q kept there sound =
     let low : q.offset < at_kind counts.registers q.kind = ltb-true _ _ there in
     omega (arith, low, kept.sounds q.kind sound)
 
--- ---- the same of the lists in memory, each of which lies in a vector
+-- ---- the same for the lists in memory, each of which is in a vector
 
--- a list of lists where one of them was set in its vector
+-- a list of lists after one of them was set in its vector
 set_in_memory : {A B : Type 0} (f : A → List B) (xs : List A) (k j n : ℕ) (x new : A) (z : B) → k ≡ j → k < length xs
     → f new ≡ slice_set (f (slice_index_or xs k x)) n z
     → map f (slice_set xs k new) ≡ slice_set (map f xs) j (slice_set (slice_index_or (map f xs) j []) n z)
@@ -445,7 +445,7 @@ set_in_memory f xs k j n x new z same low is =
     map-set f xs k new ∙ ap (slice_set (map f xs) k) (is ∙ ap (λ l. slice_set l n z) (sym (get_or-map f xs k x [] low)))
     ∙ ap (λ i. slice_set (map f xs) i (slice_set (slice_index_or (map f xs) i []) n z)) same
 
--- a list of them is as long as what it stands for
+-- a list in memory is as long as the list that it represents
 low_in_memory : {A B : Type 0} (f : A → List B) (xs : List A) (k j n : ℕ) (x : A) → k ≡ j → k < length xs
     → n < length (slice_index_or (map f xs) j []) → n < length (f (slice_index_or xs k x))
 low_in_memory f xs k j n x same low less =
@@ -512,7 +512,7 @@ module _ {A : Type 0} (f : A → List (List ℤ)) (ones : List (List ℤ)) (rows
       low_in_memory f rows k (kind_number q.kind - 5) q.offset x is sound_row_there sound_low_there in
       omega (arith, low, long (slice_index_or rows k x))
 
-  -- the row of a register is as long as a cycle
+  -- the row of a register has a number for each frame of a cycle
   pub sound_long : (x : A) (row : List ℤ) → row ≡ slice_index_or (f (slice_index_or rows k x)) q.offset []
       → length row ≡ old.ksmps
   sound_long x row at =

@@ -1,4 +1,4 @@
--- Quotients by a divisor that is held: how large they are.
+-- Quotients by a divisor that is held: their magnitudes.
 use Rattle.std.proofs.Common.{◌≡◌, ℕ, ◌+◌, ◌*◌, ◌/◌, ◌<◌, ◌≤◌, ℤ, pos, negsuc, ◌≤ℤ◌, ◌*ℤ◌, unsigned_abs, false}
 use Rattle.std.proofs.{Common.if◌then◌else◌, Common.ap, Common.◌∙◌, Common.arith, Math.Nat.mul-add, Math.Nat.mul_comm}
 use Rattle.std.specs.Ordering.{int_eq}
@@ -11,7 +11,7 @@ once_more k d =
     let same : d * k ≡ k * d = mul_comm d k in
     omega (arith, parts, same)
 
--- the quotient of a number that is at most so many times the divisor is at most as many
+-- if a number is at most k times the divisor, its quotient is at most k
 floor_within : (n : ℤ) (d most : ℕ) → 0 < d → unsigned_abs n ≤ most * d → unsigned_abs (floor_div n (pos d)) ≤ most
 floor_within (pos a) d most low h =
     let more : (most + 1) * d ≡ most * d + d = once_more most d in
@@ -24,7 +24,7 @@ floor_within (negsuc a) d most low h =
 raw_of_small : (z : ℤ) → unsigned_abs z ≤ 140737488355327 → IsRaw z
 raw_of_small z h = (omega (arith, ints, h), omega (arith, ints, h))
 
--- what is within the reach of a divisor has a quotient in range
+-- a number within the reach of a divisor has a quotient in range
 pub quotient_in_range : (x reach value : ℤ) → pos 1 ≤ℤ value → unsigned_abs x ≤ unsigned_abs reach
     → unsigned_abs reach * 65536 ≤ 140737488355327 * unsigned_abs value → IsRaw (floor_div (x *ℤ one) value)
 quotient_in_range x reach (pos d) low near within =
@@ -37,7 +37,7 @@ quotient_in_range x reach (negsuc d) low near within = absurd (omega (arith, int
 not_zero : (d : ℕ) → 0 < d → int_eq (pos d) (pos 0) ≡ false
 not_zero d h = grind (arith, ints, nat_tests)
 
--- by what is above 0 a quotient is the exact one, rounded down and brought into range
+-- the quotient by a value above 0 is the exact one, rounded down and clipped
 pub quotient_is : (x value : ℤ) → pos 1 ≤ℤ value → quotient_of x value ≡ clamp (floor_div (x *ℤ one) value)
 quotient_is x (pos d) low =
     ap (λ b. if b then quotient_by_zero x else clamp (floor_div (x *ℤ one) (pos d)))

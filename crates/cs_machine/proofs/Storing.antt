@@ -12,7 +12,7 @@ use Rattle.cs_voice_meaning.specs.Placing.{wave_in, with_wave}
 use Rattle.cs_machine.proofs.Writing.{frame_in, in_here}
 use Rattle.cs_base.specs.declared.resource.Rate.TheVariants as rate
 
--- an address of an area is its first and a frame
+-- an address of an area is the area's first address plus a frame
 off : (area : Area) (a : ℕ) → in_area (Some area) a ≡ true
     → (a - area.first < area.length) × (area.first + (a - area.first) ≡ a)
 off area a h =
@@ -21,7 +21,7 @@ off area a h =
     let high = ltb-true a (area.first + area.length) b.1 in
     (omega (arith, low, high), omega (arith, low, high))
 
--- what an area holds, written into it again, changes nothing
+-- writing the values of an area into it again changes nothing
 pub none_stored : (area : Area) (cells : ℕ → ℤ) → cells ≡ with_wave (Some area) (wave_in rate.Audio area cells) cells
 none_stored area cells = λ i a. at a i
   where
@@ -72,7 +72,7 @@ one_stored c cells area place sig w j p z before at_p low long is =
         (λ out. ap (λ b. if b then stored place sig j w (a - area.first) else cells a) out
         ∙ sym (ap (λ b. if b then stored place sig (suc j) w (a - area.first) else cells a) out)))
 
--- the places of a table of as many points as the area has cells
+-- the indexes of a table that has as many points as the area has cells
 pub in_table : (t : Table) (area : Area) (indices sig w : Wave) (n : ℕ) (cells now : ℕ → ℤ) → t.size ≡ area.length
     → now ≡ with_wave (Some area) (stored (λ j. place_of_index (len_of area.length) (indices j)) sig n w) cells
     → now ≡ with_wave (Some area) (stored (places_of_indices t indices) sig n w) cells

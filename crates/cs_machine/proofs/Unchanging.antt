@@ -1,4 +1,4 @@
--- No step makes another unit of a unit.
+-- A step doesn't change a unit's opcode.
 use Rattle.std.proofs.Common.{◌≡◌, ℕ, zero, suc, ◌+◌, List, ℤ, refl, ◌∙◌, ap}
 use Rattle.cs_signal.specs.Steps.{run}
 use Rattle.cs_ugen.proofs.Units.{opcode_stays}
@@ -8,7 +8,7 @@ same_run : (at : ℕ → List ℤ) (k : UnitState) (j n : ℕ) → opcode_of (ru
 same_run at k j zero = refl
 same_run at k j (suc n) = same_run at (unit_step k (at j)).0 (j + 1) n ∙ opcode_stays k (at j)
 
--- a unit that has run is of the opcode that it was of
+-- a unit that has run has the same opcode
 pub same_unit : (at : ℕ → List ℤ) (k t : UnitState) (j n : ℕ) (row : List ℤ) → (t, row) ≡ run unit_step at k j n
     → opcode_of t ≡ opcode_of k
 same_unit at k t j n row e = ap (λ r. opcode_of r.0) e ∙ same_run at k j n

@@ -1,4 +1,4 @@
--- Areas as they are read and written.
+-- Reading and writing areas.
 use Rattle.std.proofs.Common.{◌≡◌, ℕ, ℤ, pos, ◌+◌, ◌-◌, ◌<◌, ◌≤◌, true, false, ◌&&◌, List, length, map, Some, nat_lt}
 use Rattle.std.proofs.Common.{nat_le, slice_set, if◌then◌else◌, refl, sym, ◌∙◌, ap, subst, arith}
 use Rattle.std.proofs.lemmas.{Bool.and_parts, Bool.Decides.nat_tests, List.FromFn.get_or-map-range_with_len}
@@ -12,7 +12,7 @@ use Rattle.cs_voice_meaning.specs.Placing.{wave_in, with_wave}
 use Rattle.cs_machine.specs.Access.{CanSet, CanTouch}
 use Rattle.cs_base.specs.declared.resource.Rate.TheVariants as rate
 
--- what may be set stays so as long as a bank stands on the same
+-- what may be set stays the same while the bank has the same rest
 pub set_again : {S : Type 0} (access : S → Access) (r s : S) (area : Area) → s ≡ r
     → CanSet (access r) area → CanSet (access s) area
 set_again access r s area rest h = subst (λ q. CanSet (access q) area) (sym rest) h
@@ -30,7 +30,7 @@ pub within_here : (can : ℕ → Type 0) (n : ℕ) (cells : List ℤ) (area : Ar
 within_here can n cells area j counted h low =
     subst (λ m. area.first + j < m) (sym counted) (h.within (area.first + j) (in_here area j low))
 
--- what a frame of an area holds
+-- the value of a frame of an area
 pub frame_in : (area : Area) (cells : ℕ → ℤ) (j : ℕ) → j < area.length
     → wave_in rate.Audio area cells j ≡ cells (area.first + j)
 frame_in area cells j low = let test : nat_lt j area.length ≡ true =
@@ -40,7 +40,7 @@ pub frame_past : (area : Area) (cells : ℕ → ℤ) (j : ℕ) → area.length �
 frame_past area cells j far = let test : nat_lt j area.length ≡ false =
     grind (arith, nat_tests) in ap (λ b. if b then cells (area.first + j) else pos 0) test
 
--- what a row has that was read from an area
+-- the elements of a row that was read from an area
 pub frame_read : (area : Area) (c : List ℤ) (row : List ℤ) (j : ℕ) → j < area.length
     → row ≡ map (cell c) (range_with_len area.first area.length) → argument row j ≡ wave_in rate.Audio area (cell c) j
 frame_read area c row j low is =
@@ -48,7 +48,7 @@ frame_read area c row j low is =
     ∙ get_or-map-range_with_len (cell c) area.first area.length j (area.first + j) (pos 0) low refl
     ∙ sym (frame_in area (cell c) j low)
 
--- a wave counts in an area's frames alone
+-- only frames of an area matter of a wave
 below_here : (f n a : ℕ) → (nat_le f a && nat_lt a (f + n)) ≡ true → a - f < n
 below_here f n a h =
     let parts = and_parts (nat_le f a) (nat_lt a (f + n)) h in
@@ -67,7 +67,7 @@ same_wave area w v cells h = λ i a. at a i
         (λ no. ap (λ b. if b then w (a - area.first) else cells a) no
         ∙ sym (ap (λ b. if b then v (a - area.first) else cells a) no))
 
--- one value in an area of one cell
+-- one value was written into an area of one cell
 pub one_value : (c : List ℤ) (area : Area) (z : ℤ) → area.length ≡ 1 → area.first + 0 < length c
     → cell (slice_set c (area.first + 0) z) ≡ with_wave (Some area) (constant z) (cell c)
 one_value c area z one low =

@@ -1,4 +1,4 @@
--- Areas that are cleared by rows of zeros, one behind the other.
+-- Areas that are cleared with rows of zeros, one after the other.
 use Rattle.std.proofs.Common.{◌≡◌, ◌∙◌, ◌+◌, ◌-◌, ◌&&◌, ℕ, ℤ, true, false, ap, arith, get_or, if◌then◌else◌, leb-true}
 use Rattle.std.proofs.Common.{length, ltb-true, min, nat_le, nat_lt, pos, replicate, sym, take}
 use Rattle.std.proofs.lemmas.Bool.{and_from, and_parts, both_ways, Decides.nat_tests}
@@ -7,7 +7,7 @@ use Rattle.cs_base.proofs.Tests.{by_test}
 use Rattle.cs_cells.specs.Cells.{cell, with_row}
 use Rattle.cs_ir.specs.Waves.{silence}
 
--- the front of a row of zeros
+-- a prefix of a row of zeros
 pub front_of_zeros : (z : ℤ) (count most left : ℕ) → count ≡ min most left
     → take count (replicate most z) ≡ replicate count z
 front_of_zeros z count most left is = take-replicate count most z (omega (arith, is))
@@ -19,7 +19,7 @@ zero_at : (n k : ℕ) (z : ℤ) → z ≡ pos 0 → get_or (replicate n z) k (po
 zero_at n k z is = by_test (nat_lt k n) (λ yes. get_or-replicate n k z (pos 0) (ltb-true k n yes) ∙ is)
     (λ past. get_or_past (replicate n z) k (pos 0) (grind (arith, nat_tests, length-replicate)))
 
--- an address lies among the first so many places and as many more if it lies among the later or the earlier of them
+-- an address is among the first j + n places if it is among the first j or among the n after them
 module _ (f j n a : ℕ) where
   later : (nat_le (f + j) a && nat_lt a (f + j + n)) ≡ true → (nat_le f a && nat_lt a (f + (j + n))) ≡ true
   later h =
@@ -45,7 +45,7 @@ module _ (f j n a : ℕ) where
       (and_from (nat_le (f + j) a) (nat_lt a (f + j + n)) (grind (arith, nat_tests))
       (grind (arith, nat_tests, high)))))) (λ no. no)
 
--- behind places that were cleared a row of zeros clears as many more
+-- after places that were cleared, a row of zeros clears the next n
 pub cleared_more : (cells : ℕ → ℤ) (f j n : ℕ) (z : ℤ) (before now : ℕ → ℤ) → z ≡ pos 0
     → before ≡ with_row f j silence cells
     → now ≡ with_row (f + j) (length (replicate n z)) (cell (replicate n z)) before

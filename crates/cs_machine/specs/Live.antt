@@ -11,7 +11,8 @@ pub record LiveOver (B : Type 0) : Type 0 where
   pub bank : B
   pub area : Area
 
--- An area has a table's points, which may be read, with so many before the guard point and the guard point at a place.
+-- The area has a table's points, which may be read, with `len` of them before the guard point, and the guard
+-- point at index `guard`.
 pub record IsLive (access : Access) (area : Area) (len guard : ℕ) : Type 0 where
   pub read : CanGet access area
   pub small : area.first + area.length ≤ 65536

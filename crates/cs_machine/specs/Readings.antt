@@ -1,4 +1,4 @@
--- Where the table of a unit is.
+-- The place of a unit's table.
 use Rattle.std.specs.Prelude.{ℤ, List, Option, Some, None}
 use Rattle.cs_cells.specs.declared.footprint.Area.{Area}
 use Rattle.cs_machine.specs.declared.player.Reads.{Reads}
@@ -10,7 +10,7 @@ points_in reads.Nothing = None
 points_in (reads.Frozen curve) = Some curve.points.now
 points_in (reads.Live area) = None
 
--- the area of a live one
+-- the area of a live table
 abbrev pub area_in : Reads → Option Area
 area_in reads.Nothing = None
 area_in (reads.Frozen curve) = None

@@ -1,4 +1,4 @@
-// Areas as values over a control cycle, a cell a frame.
+// Areas as values over a control cycle, with one cell for each frame.
 ghost use Rattle.std.specs.Prelude.{◌≡◌, ◌+◌, ◌<◌, ◌≤◌, length, slice_set, Some};
 ghost use Rattle.cs_machine.specs.{Access.CanGet, Access.CanSet, Rows.HasFrames, Rows.row_wave};
 ghost use Rattle.cs_base.specs.declared.resource.Rate.TheVariants as rate;
@@ -11,10 +11,10 @@ use crate::outputs::add_row;
 use cs_base::Num;
 use cs_cells::{Area, Bank};
 
-/// How many cells are cleared at once.
+// The number of cells that are cleared at a time.
 const CLEARED_AT_ONCE: usize = 64;
 
-/// Reads an area into a row of as many places.
+/// Reads an area into a row of the same length.
 pub fn read_row<B: Bank>(bank: &mut B, area: Area, row: &mut [Num])
     requires row { length row.old ≡ area.length }
     requires read { CanGet (B.access (B.rest bank.old)) area }
@@ -27,7 +27,7 @@ pub fn read_row<B: Bank>(bank: &mut B, area: Area, row: &mut [Num])
     bank.get_row(area.first, row);
 }
 
-/// Writes a row into an area of as many cells.
+/// Writes a row into an area of the same length.
 pub fn write_row<B: Bank>(bank: &mut B, area: Area, row: &[Num])
     requires row { length row.now ≡ area.length }
     requires write { CanSet (B.access (B.rest bank.old)) area }
@@ -49,7 +49,8 @@ pub fn write_value<B: Bank>(bank: &mut B, area: Area, value: Num)
     set_frame(bank, area, 0, value);
 }
 
-/// Adds a row to what an area of as many cells holds. `room` is room for a row, and what it holds means nothing.
+/// Adds a row to the cells of an area of the same length. `room` is a buffer of the same length, whose
+/// contents don't matter.
 pub fn mix_row<B: Bank>(bank: &mut B, area: Area, row: &[Num], room: &mut [Num])
     requires row { length row.now ≡ area.length }
     requires room { length room.old ≡ area.length }
@@ -83,7 +84,7 @@ pub(crate) fn clear<B: Bank>(bank: &mut B, area: Area)
     }
 }
 
-/// One cell of an area.
+/// Returns the value of one cell of an area.
 #[inline(always)]
 pub(crate) fn get_frame<B: Bank>(bank: &mut B, area: Area, frame: usize) -> Num
     requires read { CanGet (B.access (B.rest bank.old)) area }
@@ -96,7 +97,7 @@ pub(crate) fn get_frame<B: Bank>(bank: &mut B, area: Area, frame: usize) -> Num
     bank.get(address(area, frame))
 }
 
-/// One cell of an area takes a value.
+/// Sets one cell of an area.
 #[inline(always)]
 pub(crate) fn set_frame<B: Bank>(bank: &mut B, area: Area, frame: usize, value: Num)
     requires write { CanSet (B.access (B.rest bank.old)) area }
@@ -108,7 +109,7 @@ pub(crate) fn set_frame<B: Bank>(bank: &mut B, area: Area, frame: usize, value: 
     bank.set(address(area, frame), value);
 }
 
-/// The address of an area's cell.
+// Returns the address of an area's cell.
 #[inline(always)]
 fn address(area: Area, frame: usize) -> u32
     requires small { area.first + area.length ≤ 65536 }

@@ -1,4 +1,4 @@
-// What operators and functions make of registers. Each call writes one register, as it is kept at its rate.
+// Operators and functions on registers. Each call writes one register, as its rate stores it.
 ghost use Rattle.std.specs.Prelude.{◌≡◌, false, true, length};
 ghost use Rattle.cs_base.specs.Rates.{is_audio};
 ghost use Rattle.cs_ir.specs.{Registers.rate_at, Validity.has_register, Waves.both, Waves.chosen};
@@ -13,7 +13,7 @@ use cs_ir::{Reg, apply, combine, holds, negate};
 use cs_words::{BinOp, Func};
 
 impl Registers {
-    /// A register as it is. `row` is room for a row, and is so afterwards.
+    /// Copies a register. `row` is a buffer for a row, before and after.
     #[inline(always)]
     pub fn copy(&mut self, into: Reg, x: Reg, row: &mut Vec<Num>)
         requires into { has_register self.old.counts into ≡ true }
@@ -30,7 +30,7 @@ impl Registers {
         }
     }
 
-    /// The negative of a register.
+    /// Negates a register.
     #[inline(always)]
     pub fn negate(&mut self, into: Reg, x: Reg, row: &mut Vec<Num>)
         requires into { has_register self.old.counts into ≡ true }
@@ -47,7 +47,7 @@ impl Registers {
         }
     }
 
-    /// What a function makes of a register.
+    /// Applies a function to a register.
     #[inline(always)]
     pub fn apply(&mut self, function: Func, into: Reg, x: Reg, row: &mut Vec<Num>)
         requires into { has_register self.old.counts into ≡ true }
@@ -64,7 +64,7 @@ impl Registers {
         }
     }
 
-    /// What an operator makes of two registers.
+    /// Applies an operator to two registers.
     #[inline(always)]
     pub fn combine(&mut self, operator: BinOp, into: Reg, x: Reg, y: Reg, row: &mut Vec<Num>)
         requires into { has_register self.old.counts into ≡ true }
@@ -82,7 +82,7 @@ impl Registers {
         }
     }
 
-    /// The second register where the first holds, else the third.
+    /// Copies `x` at the frames at which the condition holds, and `y` at the others.
     #[inline(always)]
     pub fn pick(&mut self, into: Reg, condition: Reg, x: Reg, y: Reg, row: &mut Vec<Num>)
         requires into { has_register self.old.counts into ≡ true }

@@ -1,4 +1,4 @@
-// A player on registers: the arguments of its unit stand where the op says.
+// A player on registers: the arguments of its unit are in the registers that the op names.
 ghost use Rattle.std.specs.Prelude.{◌≡◌, ◌<◌, ◌≤◌, ℕ, [], ◌∷◌, length, map, slice_index_or, true};
 ghost use Rattle.std.specs.List.{All, list_all};
 ghost use Rattle.cs_cells.specs.Cells.{cell};
@@ -15,12 +15,13 @@ use cs_cells::Bank;
 use cs_ir::Reads;
 use cs_signal::Operand;
 
-/// How many arguments a unit takes at a step at most, and how many all units but one take.
+// The highest number of arguments that a unit takes at a step, and the highest number for all units except
+// one.
 const MOST_INPUTS: usize = 7;
 
 const FEW_INPUTS: usize = 3;
 
-/// A step for each frame of `row`.
+/// Makes a step for each frame of `row`.
 #[inline(always)]
 pub fn block<B: Bank>(
     player: &mut Player,
@@ -52,7 +53,7 @@ pub fn block<B: Bank>(
     }
 }
 
-/// A step for each frame of `row`, of a unit that takes many.
+// Makes a step for each frame of `row`, for a unit with more than `FEW_INPUTS` arguments.
 #[inline(never)]
 fn block_on_many<B: Bank>(
     player: &mut Player,
@@ -76,7 +77,7 @@ fn block_on_many<B: Bank>(
     player.block(&inputs[..from.len()], bank, row);
 }
 
-/// What registers are to a unit over a cycle, and 0 behind the last.
+// Returns the registers as operands of a unit over a cycle, with 0 after the last one.
 fn operands<'r>(regs: &'r Registers, from: Reads<'_>) -> [Operand<'r>; MOST_INPUTS]
     requires there { list_all (has_register regs.now.counts) (regs_read from) ≡ true }
     requires few { length (regs_read from) ≤ 7 }
@@ -109,7 +110,7 @@ fn operand_at<'r>(regs: &'r Registers, from: Reads<'_>, place: usize) -> Operand
     }
 }
 
-/// One step, on what the registers are at the first frame.
+/// Makes one step, on the values of the registers at the first frame.
 #[inline(always)]
 pub fn step<B: Bank>(player: &mut Player, regs: &Registers, from: Reads<'_>, bank: &mut B) -> Num
     requires there { list_all (has_register regs.now.counts) (regs_read from) ≡ true }
@@ -134,7 +135,7 @@ pub fn step<B: Bank>(player: &mut Player, regs: &Registers, from: Reads<'_>, ban
     }
 }
 
-/// One step of a unit that takes many.
+// Makes one step of a unit with more than `FEW_INPUTS` arguments.
 #[inline(never)]
 fn step_on_many<B: Bank>(
     player: &mut Player,
@@ -168,7 +169,7 @@ fn first_at(regs: &Registers, from: Reads<'_>, place: usize) -> Num
     }
 }
 
-/// What registers are at the first frame, and 0 behind the last.
+// Returns the values of registers at the first frame, with 0 after the last one.
 fn firsts(regs: &Registers, from: Reads<'_>) -> [Num; MOST_INPUTS]
     requires there { list_all (has_register regs.now.counts) (regs_read from) ≡ true }
     requires few { length (regs_read from) ≤ 7 }

@@ -1,19 +1,20 @@
-//! The machine that runs codes: what a note keeps from cycle to cycle, and the cells that notes share.
+//! The machine that runs codes: what a note stores from cycle to cycle, and the cells that notes share.
 //!
-//! The one contract: a `State` over cells stands for a machine of the world of voices (`machine_of`, specs/States), and
-//! `send`, `send_at` and `turn_off` make of it the machine that their definitions make (`Does`). Contracts see
-//! registers as a value over the cycle for each register (specs/Registers), the cells of a bank as one function by
-//! address (specs/Access), and a `Player` as a unit with the points of its table (specs/Players). What touches cells
-//! touches those of its areas alone.
+//! The one contract: a `State` on cells represents a machine of the world of voices (`machine_of`,
+//! specs/States), and `send`, `send_at` and `turn_off` turn it into the machine that their definitions yield
+//! (`Does`). Contracts see registers as a value over the cycle for each register (specs/Registers), the cells
+//! of a bank as one function by address (specs/Access), and a `Player` as a unit with the points of its table
+//! (specs/Players). Code that touches cells touches only cells of its areas.
 //!
-//! How registers, units and channels lie in memory, which loop fills a row, in which order cells are read and written,
-//! and how a table is read, may be changed without anyone above noticing.
+//! These may be changed without anyone above noticing: how registers, units and channels lie in memory, which
+//! loop fills a row, in which order cells are read and written, and how a table is read.
 //!
-//! Modules in reading order: `rows` (loops over the frames of a cycle), `quotient` (by a value that is held), `pairs`
-//! (an operator and two operands over the frames), `registers`, `compute` (operators and functions over registers),
-//! `outputs` (the channels); `places` (areas and numbers), `area_rows` (an area at once), `zak`, `table` (stores),
-//! `live` (reading); `player` (a unit and its table), `gather` (a player on registers); `state` (what a note keeps,
-//! and what it plays in), `values` (p-fields, the header), `output` (channels, a note's end).
+//! Modules in reading order: `rows` (loops over the frames of a cycle), `quotient` (by a divisor that is
+//! held), `pairs` (an operator on two operands over the frames), `registers`, `compute` (operators and
+//! functions on registers), `outputs` (the channels); `places` (areas and numbers), `area_rows` (all cells of
+//! an area), `zak`, `table` (stores), `live` (reading); `player` (a unit and its table), `gather` (a player
+//! on registers); `state` (what a note stores, and what it plays in), `values` (p-fields, the header),
+//! `output` (channels, a note's end).
 #![tactic(auto)]
 
 mod area_rows;

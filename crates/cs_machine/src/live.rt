@@ -11,9 +11,9 @@ use cs_gen::len_of;
 use cs_ugen::Curve;
 use std::marker::Model;
 
-/// A live table as a curve over the cells of a bank: its points as they stand, and the guard point, which is the last
-/// of a size that is one more than a power of two, else the first. Contracts see the bank, the loan's name and the
-/// area.
+/// A live table as a curve over the cells of a bank: its points as they are now, and the guard point. The
+/// guard point is the last point if the size is one more than a power of two, and otherwise a copy of the
+/// first. Contracts see the bank, the loan's name and the area.
 #[derive(Drop)]
 pub(crate) struct LiveTable<'b, B: Bank> {
     bank: &'b mut B,
@@ -33,7 +33,7 @@ impl<'b, B: Bank> Model for LiveTable<'b, B> {
 }
 
 impl<'b, B: Bank> LiveTable<'b, B> {
-    /// The table whose points an area has, as many as its size.
+    /// Makes the curve of the table whose points are in `area`; the length of the area is the table's size.
     pub(crate) fn new(bank: &'b mut B, area: Area) -> LiveTable<'b, B>
         requires power { is_len (len_of area.length) ≡ true }
         requires read { CanGet (B.access (B.rest bank.old)) area }
@@ -52,7 +52,7 @@ impl<'b, B: Bank> LiveTable<'b, B> {
         }
     }
 
-    /// The bank again, when the table has been read.
+    /// Returns the bank, after the table has been read.
     pub(crate) fn into_bank(self) -> &'b mut B
         ensures name { result.ghost_name ≡ self.entry.name }
         ensures bank { result.now ≡ self.entry.bank }
@@ -61,7 +61,7 @@ impl<'b, B: Bank> LiveTable<'b, B> {
     }
 }
 
-// The place of the guard point.
+// The index of the guard point.
 fn guard_of(size: u32) -> u32
     ensures { result ≡ guard_place size }
 {

@@ -1,4 +1,4 @@
-// Acts that give to the output channels, and the end of a note.
+// Acts that write to the output channels, and the end of a note.
 ghost use Rattle.std.specs.Prelude.{◌≡◌, ◌<◌, [], ◌∷◌, length, true};
 ghost use Rattle.cs_base.specs.Rates.{is_audio};
 ghost use Rattle.cs_ir.specs.{Registers.rate_at, Validity.has_register};
@@ -13,7 +13,7 @@ use cs_base::Num;
 use cs_ir::Reg;
 
 impl State<'_> {
-    /// Adds a register of sound to a channel, counted from 0: the act `Out`.
+    /// Adds an audio register to a channel, counted from 0: the act `Out`.
     #[inline(always)]
     pub fn send(&mut self, channel: usize, x: Reg)
         requires channel { channel < length self.old.outs.rows }
@@ -25,8 +25,8 @@ impl State<'_> {
         self.outs.give(channel, self.regs.row(x));
     }
 
-    /// Adds a register of sound to the channel that another one names, counted from 1; where there is no such channel
-    /// it adds it to none: the act `OutAt`.
+    /// Adds an audio register to the channel whose number, counted from 1, is in another register; if there
+    /// is no such channel it adds nothing: the act `OutAt`.
     #[inline(always)]
     pub fn send_at(&mut self, number: Reg, x: Reg)
         requires number { has_register self.old.regs.counts number ≡ true }
@@ -40,7 +40,7 @@ impl State<'_> {
         }
     }
 
-    /// The note ends with this cycle: the act `Turnoff`.
+    /// Ends the note with this cycle: the act `Turnoff`.
     pub fn turn_off(&mut self)
         ensures { (into : Reg) → DoesAnywhere act.Turnoff into [] self.old self.new }
     {
@@ -48,7 +48,8 @@ impl State<'_> {
     }
 }
 
-/// The channel, counted from 0, that a value names, counted from 1, where there is one among so many.
+// Returns the index of the channel, counted from 0, that a value names, counted from 1, or None if there is
+// no such channel.
 fn channel_below(value: Num, channels: usize) -> Option<usize>
     ensures { result ≡ channel_below channels (index value) }
 {

@@ -1,4 +1,4 @@
-// Output channels: what a note gives to each of them in a cycle.
+// Output channels: the samples that a note writes to each of them in a cycle.
 ghost use Rattle.std.specs.Prelude.{◌≡◌, ◌<◌, ℕ, [], length, replicate, pos, slice_index_or, IfOk, IfSome, IfNone};
 ghost use Rattle.cs_base.specs.Numbers.{sum_of};
 ghost use Rattle.cs_ir.specs.Waves.{both, silence};
@@ -11,7 +11,8 @@ use cs_base::{Num, OutOfMemory};
 use std::alloc::Global;
 use std::marker::Model;
 
-/// A channel: a row, and whether anything was given to it in this cycle. What its row holds counts only where it was.
+// A channel: a row, and whether a note has written to it in this cycle. The contents of the row count only
+// in that case.
 #[derive(Drop)]
 struct OutputChannel {
     row: Vec<Num>,
@@ -43,7 +44,7 @@ impl OutputChannel {
         self.sounding = false;
     }
 
-    /// The first row of a cycle is copied, more are added.
+    // Copies the first row of a cycle, and adds each further one.
     fn give(&mut self, row: &[Num])
         requires { length row.now ≡ length self.old }
         ensures frames { HasFrames (both op.Add (row_wave self.old) (row_wave row.now)) self.new }
@@ -65,8 +66,8 @@ impl OutputChannel {
     }
 }
 
-/// What a note gives to each channel in a control cycle: a row a channel. Contracts see what each channel has at each
-/// frame.
+/// The samples that a note writes to each channel in a control cycle: a row for each channel. Contracts see
+/// the value of each channel at each frame.
 #[derive(Drop)]
 pub struct Outputs {
     channels: Vec<OutputChannel>,
@@ -84,7 +85,7 @@ impl Model for Outputs {
 }
 
 impl Outputs {
-    /// So many channels, all of them silent. All memory that they need is taken now.
+    /// Makes `count` channels, all of them silent, and allocates all the memory that they need.
     pub fn new(alloc: Global, count: usize, ksmps: usize) -> Result<Outputs, OutOfMemory>
         ensures outs { IfOk result (λ o. outs o ≡ (λ n. silence)) }
         ensures channels { IfOk result (λ o. length o.rows ≡ count) }
@@ -96,7 +97,7 @@ impl Outputs {
         })
     }
 
-    /// How many channels there are; what they have is all that they are.
+    /// Returns the number of channels. For the prover: the channels are determined by their values.
     pub fn len(&self) -> usize
         ensures value { result ≡ length self.now.rows }
         ensures whole { refilled self.now (outs self.now) ≡ self.now }
@@ -122,7 +123,7 @@ impl Outputs {
         self.channels[channel].give(row);
     }
 
-    /// What a channel has, a number a frame; None where it is silent.
+    /// Returns the samples of a channel, one for each frame, or None if it is silent.
     pub fn channel(&self, channel: usize) -> Option<&[Num]>
         ensures some { IfSome result (λ row. row_wave row.now ≡ outs self.now channel) }
         ensures long { IfSome result (λ row. length row.now ≡ self.now.ksmps) }
@@ -156,7 +157,7 @@ fn clear_all(channels: &mut [OutputChannel])
     }
 }
 
-/// The first row of a channel: 0 and it.
+// Writes the first row of a channel: 0 plus the row.
 fn begin_row(row: &[Num], channel: &mut [Num])
     requires { length row.now ≡ length channel.old }
     ensures frames { HasFrames (both op.Add silence (row_wave row.now)) channel.new }
@@ -167,7 +168,7 @@ fn begin_row(row: &[Num], channel: &mut [Num])
     }
 }
 
-/// The sum of 0 and a number.
+// Returns 0 plus a number.
 #[inline(always)]
 fn first(x: Num) -> Num
     ensures { result ≡ sum_of (pos 0) x }
@@ -175,7 +176,7 @@ fn first(x: Num) -> Num
     x
 }
 
-/// A further row of a channel.
+/// Adds a further row to a channel.
 pub(crate) fn add_row(row: &[Num], channel: &mut [Num])
     requires { length row.now ≡ length channel.old }
     ensures frames { HasFrames (both op.Add (row_wave channel.old) (row_wave row.now)) channel.new }

@@ -1,8 +1,8 @@
-// What an operator makes of two operands over the frames of a control cycle.
+// Operators on two operands over the frames of a control cycle.
 //
-// Where a held factor is below one, products fit into 64 bits and nothing is brought into range. Otherwise one pass
-// multiplies the lower 32 bits of the factors, which is vector code, and joins the sizes of all factors. If these have
-// more than 32 bits, the loop of the definition makes the products anew.
+// If a held factor is below one, products fit into 64 bits and nothing is clipped. Otherwise one pass
+// multiplies the lower 32 bits of the factors, which is vector code, and combines the magnitudes of all
+// factors. If these have more than 32 bits, the loop of the definition computes the products again.
 ghost use Rattle.std.specs.Prelude.{◌≡◌, ◌<◌, ◌≤◌, ◌^◌, ◌*ℤ◌, ℕ, length, true, unsigned_abs};
 ghost use Rattle.cs_base.specs.Numbers.{IsRaw, product_of};
 ghost use Rattle.cs_ir.specs.{Values.negated, Waves.both};
@@ -17,24 +17,25 @@ use cs_ir::combine;
 use cs_signal::Operand;
 use cs_words::BinOp;
 
-/// Exclusive upper bound of the sizes of factors that have 32 bits.
+// Exclusive upper bound of the magnitudes of factors that have 32 bits.
 const SIZE_BOUND: u64 = 4_294_967_296;
 
-/// One of the two operands of a loop: a number that is held, or one a frame.
+// One of the two operands of a loop: a number that is held, or a number for each frame.
 trait Side {
     ghost use Rattle.std.specs.Prelude.{ℕ, ℤ, IfSome};
 
-    /// What it is at each frame.
+    // The value at each frame.
     ghost wave: { Self → ℕ → ℤ };
 
-    /// It has a number at each of so many frames.
+    // There is a number at each of the first n frames.
     ghost lasts: { Self → ℕ → Type 0 };
 
-    /// Whether its size is below one at each frame; it may be so even where this is false.
+    // Returns true only if the magnitude is below one at each frame; it may be below one even if this is
+    // false.
     fn is_gain(&self) -> bool
         ensures { result ≡ true → (j : ℕ) → unsigned_abs (wave self.now j) < 65536 };
 
-    /// It as a divisor, where it is held and above 0.
+    // Returns the operand as a divisor if it is held and above 0, otherwise None.
     fn divisor(&self) -> Option<HeldDivisor>
         ensures { IfSome result (λ d. (j : ℕ) → d.divisor.value ≡ wave self.now j) };
 
@@ -100,7 +101,7 @@ impl Side for Row<'_> {
     }
 }
 
-/// The negative of an operand.
+/// Negates an operand.
 pub(crate) fn negate_row(x: &Operand, out: &mut [Num])
     requires x { Lasts (length out.old) x.now }
     ensures frames { HasFrames (λ j. negated (operand_at x.now j)) out.new }
@@ -109,7 +110,7 @@ pub(crate) fn negate_row(x: &Operand, out: &mut [Num])
     combine_row(BinOp::Sub, &Operand::Held(Num::exact(0)), x, out);
 }
 
-/// What an operator makes of two operands.
+/// Applies an operator to two operands.
 pub(crate) fn combine_row(operator: BinOp, x: &Operand, y: &Operand, out: &mut [Num])
     requires x { Lasts (length out.old) x.now }
     requires y { Lasts (length out.old) y.now }
@@ -130,7 +131,7 @@ pub(crate) fn combine_row(operator: BinOp, x: &Operand, y: &Operand, out: &mut [
     }
 }
 
-/// Each operator that sounds have gets loops of its own.
+// Runs a separate loop for each audio operator.
 #[inline(always)]
 fn by_operator<X: Side, Y: Side>(operator: BinOp, x: &X, y: &Y, out: &mut [Num])
     requires x { X.lasts x.now (length out.old) }
@@ -159,7 +160,7 @@ fn each<X: Side, Y: Side>(operator: BinOp, x: &X, y: &Y, out: &mut [Num])
     }
 }
 
-/// The quotient of two operands.
+// Divides two operands.
 #[inline(always)]
 fn divide<X: Side, Y: Side>(x: &X, y: &Y, out: &mut [Num])
     requires x { X.lasts x.now (length out.old) }
@@ -173,7 +174,7 @@ fn divide<X: Side, Y: Side>(x: &X, y: &Y, out: &mut [Num])
     }
 }
 
-/// Quotients by a divisor that stays.
+// Divides by a divisor that stays the same.
 #[inline(always)]
 fn each_quotient<X: Side, Y: Side>(x: &X, y: &Y, divisor: HeldDivisor, out: &mut [Num])
     requires x { X.lasts x.now (length out.old) }
@@ -187,7 +188,7 @@ fn each_quotient<X: Side, Y: Side>(x: &X, y: &Y, divisor: HeldDivisor, out: &mut
     }
 }
 
-/// The product of two operands.
+// Multiplies two operands.
 #[inline(always)]
 fn multiply<X: Side, Y: Side>(x: &X, y: &Y, out: &mut [Num])
     requires x { X.lasts x.now (length out.old) }
@@ -202,8 +203,8 @@ fn multiply<X: Side, Y: Side>(x: &X, y: &Y, out: &mut [Num])
     }
 }
 
-/// Multiplies the lower 32 bits of both operands, and returns the sizes of all factors joined. If these are below 2^32,
-/// `out` has the products.
+// Multiplies the lower 32 bits of both operands, and returns the magnitudes of all factors, combined by or.
+// If the result is below 2^32, `out` has the products.
 #[inline(always)]
 fn each_low<X: Side, Y: Side>(x: &X, y: &Y, out: &mut [Num]) -> u64
     requires x { X.lasts x.now (length out.old) }
@@ -221,7 +222,7 @@ fn each_low<X: Side, Y: Side>(x: &X, y: &Y, out: &mut [Num]) -> u64
     sizes
 }
 
-/// Products that fit into 64 bits.
+// Computes products that fit into 64 bits.
 #[inline(always)]
 fn each_product<X: Side, Y: Side>(x: &X, y: &Y, out: &mut [Num])
     requires x { X.lasts x.now (length out.old) }
@@ -235,7 +236,7 @@ fn each_product<X: Side, Y: Side>(x: &X, y: &Y, out: &mut [Num])
     }
 }
 
-/// A product that fits into 64 bits.
+// Computes a product that fits into 64 bits.
 #[inline(always)]
 fn product(x: Num, y: Num) -> Num
     requires { IsNarrow x y }
@@ -244,7 +245,7 @@ fn product(x: Num, y: Num) -> Num
     Num::of_product(x.raw() * y.raw())
 }
 
-/// Whether a factor makes no number larger.
+// Returns true only if one of the factors is a gain, which makes no number larger.
 #[inline(always)]
 fn is_by_gain<X: Side, Y: Side>(x: &X, y: &Y) -> bool
     ensures { result ≡ true → (count : ℕ) → AreNarrow count (X.wave x.now) (Y.wave y.now) }
@@ -252,7 +253,7 @@ fn is_by_gain<X: Side, Y: Side>(x: &X, y: &Y) -> bool
     x.is_gain() || y.is_gain()
 }
 
-/// Below 2^32 only where both factors have 32 bits.
+// Below 2^32 only if both factors have 32 bits.
 #[inline(always)]
 fn size(x: Num, y: Num) -> u64
     ensures { result < 4294967296 → (IsShort x × IsShort y) }
@@ -260,7 +261,7 @@ fn size(x: Num, y: Num) -> u64
     lifted(x.raw()) | lifted(y.raw())
 }
 
-/// Below 2^32 only where the number has 32 bits.
+// Below 2^32 only if the number has 32 bits.
 #[inline(always)]
 fn lifted(x: i64) -> u64
     requires { IsRaw x }
@@ -269,7 +270,8 @@ fn lifted(x: i64) -> u64
     (x + 2_147_483_648).cast_unsigned()
 }
 
-/// The product of the lower 32 bits of two numbers, which is that of the numbers where these have 32 bits.
+// Returns the product of the lower 32 bits of two numbers. It is the product of the numbers if these have 32
+// bits.
 #[inline(always)]
 fn low_product(x: Num, y: Num) -> Num
     ensures { IsShort x → IsShort y → result ≡ product_of x y }
@@ -284,7 +286,7 @@ fn low_times(x: i64, y: i64) -> i64
     low(x) * low(y)
 }
 
-/// The lower 32 bits of a number, with their sign.
+// Returns the lower 32 bits of a number, with their sign.
 #[inline(always)]
 fn low(x: i64) -> i64
     ensures value { IsShort x → result ≡ x }

@@ -1,4 +1,4 @@
-// Where a resource has its cells, and what numbers name.
+// The cells of a resource, and the integers that values name.
 ghost use Rattle.std.specs.Prelude.{◌≡◌, ◌+◌, ◌<◌, ◌≤◌, length, slice_get, IfSome, Some};
 ghost use Rattle.cs_meaning.specs.Pieces.{index};
 ghost use Rattle.cs_voice_meaning.specs.Placing.{HasArea, area_of};
@@ -6,12 +6,12 @@ ghost use Rattle.cs_voice_meaning.specs.Placing.{HasArea, area_of};
 use cs_base::{Num, Res};
 use cs_cells::{Area, Layout};
 
-/// The area of a resource, where it has one.
+/// Returns the area of a resource, or None if it has none.
 pub fn area_of(layout: &Layout, res: Res) -> Option<Area>
     ensures value { result ≡ area_of layout.now res }
     ensures small { IfSome result (λ area. area.first + area.length ≤ 65536) }
 {
-    // No two areas are of one resource.
+    // For the prover: no two areas belong to one resource.
     let _ = layout.words();
     match layout.find(res) {
         Some(place) => Some(area_at(layout, place)),
@@ -19,7 +19,7 @@ pub fn area_of(layout: &Layout, res: Res) -> Option<Area>
     }
 }
 
-/// The area of a resource that has one.
+/// Returns the area of a resource that has one.
 pub fn area_in(layout: &Layout, res: Res) -> Area
     requires { HasArea layout.now res }
     ensures value { area_of layout.now res ≡ Some result }
@@ -31,7 +31,7 @@ pub fn area_in(layout: &Layout, res: Res) -> Area
     }
 }
 
-/// The area at a place, which ends within the cells that a layout may have.
+// Returns the area at an index; it ends within the highest number of cells of a layout.
 fn area_at(layout: &Layout, place: u32) -> Area
     requires { place < length layout.now }
     ensures value { slice_get layout.now place ≡ Some result }
@@ -41,7 +41,7 @@ fn area_at(layout: &Layout, place: u32) -> Area
     layout.area(place)
 }
 
-/// The whole number below a value, where it is 0 or more.
+/// Returns the integer part of a value, or None if the value is below 0.
 pub fn index(value: Num) -> Option<usize>
     ensures { result ≡ index value }
 {

@@ -16,7 +16,7 @@ use cs_signal::Operand;
 use cs_ugen::{Frozen, FrozenTable, Unit};
 use std::marker::Model;
 
-/// Where the table of a unit is.
+// The place of a unit's table.
 #[derive(Drop)]
 enum Reads<'t> {
     Nothing,
@@ -24,7 +24,7 @@ enum Reads<'t> {
     Live(Area),
 }
 
-/// A unit as a note keeps it.
+/// A unit as a note stores it.
 #[derive(Drop)]
 pub struct Player<'t> {
     table: i64,
@@ -46,7 +46,7 @@ impl<'t> Model for Player<'t> {
 }
 
 impl<'t> Player<'t> {
-    /// A player of a unit without a table. `table` is the number of none that there is.
+    /// Makes a player of a unit without a table. `table` is a number that no table has.
     pub fn new(table: i64, unit: Unit) -> Player<'t>
         ensures { result ≡ record { table = table; state = unit; points = None; area = None } }
     {
@@ -57,7 +57,7 @@ impl<'t> Player<'t> {
         }
     }
 
-    /// A player of a unit on a frozen table: the table's number, and its points.
+    /// Makes a player of a unit on a frozen table: the table's number, and its points.
     pub fn on_frozen(table: i64, unit: Unit, points: &'t FrozenTable) -> Player<'t>
         requires { is_len (len_of (length points.now)) ≡ true }
         ensures { result ≡ record { table = table; state = unit; points = Some points.now; area = None } }
@@ -69,7 +69,7 @@ impl<'t> Player<'t> {
         }
     }
 
-    /// A player of a unit on a live table: the table's number, and its area.
+    /// Makes a player of a unit on a live table: the table's number, and its area.
     pub fn on_live(table: i64, unit: Unit, area: Area) -> Player<'t>
         ensures { result ≡ record { table = table; state = unit; points = None; area = Some area } }
     {
@@ -80,7 +80,8 @@ impl<'t> Player<'t> {
         }
     }
 
-    /// Whether it may touch its table: it has none, or the reach has the table's number.
+    /// Returns whether the unit may touch its table: either it has none, or the reach contains the table's
+    /// number.
     #[inline(always)]
     pub fn may_touch(&self, reach: Reach) -> bool
         ensures { result ≡ (not (has_table self.now) || reaches reach (unsigned_abs self.now.table)) }
@@ -91,7 +92,7 @@ impl<'t> Player<'t> {
         }
     }
 
-    /// A step for each frame of `row`.
+    /// Makes a step for each frame of `row`.
     #[inline(always)]
     pub fn block<B: Bank>(&mut self, inputs: &[Operand], bank: &mut B, row: &mut [Num])
         requires count { length inputs.now ≡ moving_count (opcode_of self.old.state) }
@@ -115,7 +116,7 @@ impl<'t> Player<'t> {
         }
     }
 
-    /// One step.
+    /// Makes one step.
     #[inline(always)]
     pub fn step<B: Bank>(&mut self, inputs: &[Num], bank: &mut B) -> Num
         requires count { length inputs.now ≡ moving_count (opcode_of self.old.state) }

@@ -4,8 +4,8 @@ ghost use Rattle.cs_base.specs.Numbers.{IsRaw, clamp, one, quotient_of};
 
 use cs_base::{Divisor, Num, ONE};
 
-/// A divisor that is held, and how large a number may be, in size, whose quotient by it is in range and is found by a
-/// product with its inverse.
+/// A divisor that is held, and the highest magnitude of a number whose quotient is in range and can be
+/// computed as a product with the inverse of the divisor.
 #[derive(Clone, Copy)]
 pub(crate) struct HeldDivisor {
     divisor: Divisor,
@@ -15,7 +15,7 @@ pub(crate) struct HeldDivisor {
     ghost within: { unsigned_abs reach * 65536 ≤ 140737488355327 * unsigned_abs divisor.value },
 }
 
-/// A value as a divisor, where it is above 0.
+/// Returns a value as a divisor, or None if it isn't above 0.
 pub(crate) fn divisor_of(value: Num) -> Option<HeldDivisor>
     ensures { IfSome result (λ d. d.divisor.value ≡ value) }
 {
@@ -29,7 +29,8 @@ pub(crate) fn divisor_of(value: Num) -> Option<HeldDivisor>
     }
 }
 
-/// By a divisor of one or more a quotient is no larger than the number.
+// Returns the highest magnitude of a number whose quotient by `value` is in range. By a divisor of one or
+// more, a quotient is no larger than the number.
 fn reach_of(value: i64) -> i64
     requires low { pos 1 ≤ℤ value }
     requires high { unsigned_abs value < 2 ^ 48 }
@@ -44,7 +45,7 @@ fn reach_of(value: i64) -> i64
     }
 }
 
-/// The quotient of two numbers, the second of which is known as a divisor.
+/// Returns the quotient of two numbers; `by` is the second one as a divisor.
 #[inline(always)]
 pub(crate) fn quotient(x: Num, y: Num, by: HeldDivisor) -> Num
     requires known { by.divisor.value ≡ y }
@@ -57,7 +58,7 @@ pub(crate) fn quotient(x: Num, y: Num, by: HeldDivisor) -> Num
     }
 }
 
-/// Whether a number is at most so large in size, by one comparison.
+// Returns whether the magnitude of a number is at most `reach`, with one comparison.
 #[inline(always)]
 fn is_within(x: i64, reach: i64) -> bool
     requires x { IsRaw x }
@@ -68,7 +69,7 @@ fn is_within(x: i64, reach: i64) -> bool
     is_below(x + reach, 2 * reach)
 }
 
-/// Without its sign a number below 0 is greater than any that isn't.
+// As an unsigned number, a negative number is greater than any other.
 #[inline(always)]
 fn is_below(x: i64, most: i64) -> bool
     requires { pos 0 ≤ℤ most }
@@ -85,7 +86,7 @@ fn near_quotient(x: Num, by: HeldDivisor) -> Num
     unchanged(by.divisor.divide(dividend(x.raw())))
 }
 
-/// A number that bringing it into range would leave as it is.
+// Returns a number that is in range, so that clipping leaves it as it is.
 #[inline(always)]
 fn unchanged(raw: i64) -> Num
     requires { IsRaw raw }
@@ -94,7 +95,7 @@ fn unchanged(raw: i64) -> Num
     Num::exact(raw)
 }
 
-/// A number in 65,536ths of 65,536ths.
+// Returns a number in units of 1/65,536 of 1/65,536.
 #[inline(always)]
 fn dividend(x: i64) -> i64
     requires { unsigned_abs x ≤ 2 ^ 45 }

@@ -1,4 +1,4 @@
-// Registers: held values, and a row for each register of sounds.
+// Registers: held values, and a row for each audio register.
 ghost use Rattle.std.specs.Prelude.{◌≡◌, ◌<◌, ◌-◌, ℕ, [], length, map, replicate, slice_index_or, slice_set, pos, IfOk};
 ghost use Rattle.std.specs.Prelude.{false, true};
 ghost use Rattle.cs_base.specs.Rates.{is_audio};
@@ -17,13 +17,13 @@ use std::alloc::Global;
 use std::marker::Model;
 use std::mem;
 
-/// The registers of a note. One of rate Audio is a row with a number for each frame of a control cycle, any other holds
-/// one number. Contracts see what each register is at each frame.
+/// The registers of a note. An audio register is a row with a number for each frame of a control cycle; any
+/// other holds one number. Contracts see the value of each register at each frame.
 #[derive(Drop)]
 pub struct Registers {
-    /// The registers that hold one number, those of each kind.
+    // The registers that hold one number, by kind.
     held: [Vec<Num>; HELD_KINDS],
-    /// The registers of sounds, those of each kind behind these.
+    // The audio registers, by kind; their kinds follow those that hold one number.
     sounds: [Vec<Vec<Num>>; KINDS - HELD_KINDS],
     counts: Counts,
     ksmps: usize,
@@ -47,7 +47,7 @@ impl Model for Registers {
 }
 
 impl Registers {
-    /// Registers that hold nothing yet: each is 0 at each frame. All memory that they need is taken now.
+    /// Makes registers that are 0 at each frame, and allocates all the memory that they need.
     pub fn new(alloc: Global, counts: Counts, ksmps: usize) -> Result<Registers, OutOfMemory>
         ensures values { IfOk result (λ r. values r ≡ (λ q. silence)) }
         ensures counts { IfOk result (λ r. r.counts ≡ counts) }
@@ -65,7 +65,8 @@ impl Registers {
         })
     }
 
-    /// How many registers there are; what they hold is all that they are.
+    /// Returns the number of registers of each kind. For the prover: the registers are determined by their
+    /// values.
     pub fn counts(&self) -> Counts
         ensures value { result ≡ self.now.counts }
         ensures whole { filled self.now (values self.now) ≡ self.now }
@@ -73,7 +74,7 @@ impl Registers {
         self.counts
     }
 
-    /// What a register that isn't of rate Audio holds.
+    // Returns the number that a register which isn't of audio rate holds.
     #[inline(always)]
     fn held(&self, register: Reg) -> Num
         requires there { has_register self.now.counts register ≡ true }
@@ -83,7 +84,7 @@ impl Registers {
         self.held[held_number(register.kind)][register.offset as usize]
     }
 
-    /// What a register is at the first frame.
+    /// Returns the value of a register at the first frame.
     #[inline(always)]
     pub fn first(&self, register: Reg) -> Num
         requires { has_register self.now.counts register ≡ true }
@@ -96,7 +97,8 @@ impl Registers {
         }
     }
 
-    /// A register as a unit takes it: a value that is held, or a row with one for each frame.
+    /// Returns a register as the operand of a unit: a value that is held, or a row with a number for each
+    /// frame.
     #[inline(always)]
     pub fn operand(&self, register: Reg) -> Operand<'_>
         requires { has_register self.now.counts register ≡ true }
@@ -110,7 +112,7 @@ impl Registers {
         }
     }
 
-    /// The row of a register of rate Audio.
+    /// Returns the row of an audio register.
     #[inline(always)]
     pub fn row(&self, register: Reg) -> &[Num]
         requires there { has_register self.now.counts register ≡ true }
@@ -121,7 +123,7 @@ impl Registers {
         &self.sounds[sound_number(register.kind)][register.offset as usize]
     }
 
-    /// Fills a row with what a register is at each frame.
+    /// Fills a row with the value of a register at each frame.
     pub fn frames(&self, register: Reg, row: &mut [Num])
         requires there { has_register self.now.counts register ≡ true }
         requires row { length row.old ≡ self.now.ksmps }
@@ -131,7 +133,7 @@ impl Registers {
         copy(&self.operand(register), row);
     }
 
-    /// A register that isn't of rate Audio takes a number: what a value is at the first frame.
+    /// Sets a register that isn't of audio rate to a number: the first frame of a value.
     #[inline(always)]
     pub fn set(&mut self, register: Reg, value: Num)
         requires there { has_register self.old.counts register ≡ true }
@@ -145,7 +147,8 @@ impl Registers {
         );
     }
 
-    /// A register of rate Audio takes a row, with what a value is at each frame, and its own row comes in its place.
+    /// Exchanges the row of an audio register for `row`, which has a value at each frame; `row` becomes the
+    /// register's earlier row.
     #[inline(always)]
     pub fn swap(&mut self, register: Reg, row: &mut Vec<Num>)
         requires there { has_register self.old.counts register ≡ true }
@@ -161,7 +164,7 @@ impl Registers {
         );
     }
 
-    /// A register of any rate takes one number for the whole cycle.
+    /// Sets a register of any rate to one number for the complete cycle.
     #[inline(always)]
     pub fn hold(&mut self, register: Reg, value: Num, row: &mut Vec<Num>)
         requires there { has_register self.old.counts register ≡ true }
@@ -178,7 +181,7 @@ impl Registers {
     }
 }
 
-/// Zeros for the registers of each kind that hold one number.
+// Returns zeros for the registers of each kind that holds one number.
 fn held_zeros(alloc: Global, counts: &Counts) -> Result<[Vec<Num>; HELD_KINDS], OutOfMemory>
     ensures { IfOk result (λ held. map (λ ones. ones.items) held ≡ zeros_of counts.now held_kinds) }
 {
@@ -192,7 +195,7 @@ fn held_zeros(alloc: Global, counts: &Counts) -> Result<[Vec<Num>; HELD_KINDS], 
     ])
 }
 
-/// Which of the vectors of numbers has the registers of a kind.
+// Returns the index of the vector of numbers that has the registers of a kind.
 #[inline(always)]
 fn held_number(kind: Kind) -> usize
     requires { is_audio (rate_of kind) ≡ false }
@@ -202,7 +205,7 @@ fn held_number(kind: Kind) -> usize
     kind as usize
 }
 
-/// Which of the vectors of rows has the registers of a kind.
+// Returns the index of the vector of rows that has the registers of a kind.
 #[inline(always)]
 fn sound_number(kind: Kind) -> usize
     requires { is_audio (rate_of kind) ≡ true }
@@ -212,7 +215,7 @@ fn sound_number(kind: Kind) -> usize
     kind as usize - HELD_KINDS
 }
 
-/// One of some numbers is another from now on.
+// Sets one number of a vector.
 #[inline(always)]
 fn set_in(ones: &mut Vec<Num>, place: usize, value: Num)
     requires { place < length ones.old.items }
@@ -221,7 +224,7 @@ fn set_in(ones: &mut Vec<Num>, place: usize, value: Num)
     ones[place] = value;
 }
 
-/// One of some rows is exchanged for another.
+// Exchanges one row of a vector for another.
 #[inline(always)]
 fn swap_in(rows: &mut Vec<Vec<Num>>, place: usize, row: &mut Vec<Num>)
     requires { place < length rows.old.items }
@@ -242,7 +245,7 @@ fn first_of(row: &[Num]) -> Num
     }
 }
 
-/// So many zeros.
+/// Returns `count` zeros.
 pub(crate) fn zeros(alloc: Global, count: usize) -> Result<Vec<Num>, OutOfMemory>
     ensures { IfOk result (λ v. v.items ≡ replicate count (pos 0)) }
 {
@@ -251,7 +254,7 @@ pub(crate) fn zeros(alloc: Global, count: usize) -> Result<Vec<Num>, OutOfMemory
     Ok(numbers)
 }
 
-/// So many rows of zeros.
+/// Returns `count` rows of `ksmps` zeros.
 pub(crate) fn rows(alloc: Global, count: usize, ksmps: usize) -> Result<Vec<Vec<Num>>, OutOfMemory>
     ensures { IfOk result (λ v. map (λ row. row.items) v.items ≡ replicate count (replicate ksmps (pos 0))) }
 {

@@ -9,7 +9,7 @@ use cs_ir::apply;
 use cs_signal::Operand;
 use cs_words::Func;
 
-/// The same number at each frame.
+/// Sets each frame to the same number.
 pub(crate) fn fill(value: Num, out: &mut [Num])
     ensures frames { HasFrames (constant value) out.new }
     ensures long { length out.new ≡ length out.old }
@@ -17,7 +17,7 @@ pub(crate) fn fill(value: Num, out: &mut [Num])
     out.fill(value);
 }
 
-/// An operand as it is.
+/// Copies an operand.
 pub(crate) fn copy(x: &Operand, out: &mut [Num])
     requires x { Lasts (length out.old) x.now }
     ensures frames { HasFrames (operand_at x.now) out.new }
@@ -29,7 +29,7 @@ pub(crate) fn copy(x: &Operand, out: &mut [Num])
     }
 }
 
-/// What a function makes of an operand.
+/// Applies a function to an operand.
 pub(crate) fn apply_row(function: Func, x: &Operand, out: &mut [Num])
     requires x { Lasts (length out.old) x.now }
     ensures frames { HasFrames (λ j. applied function (operand_at x.now j)) out.new }

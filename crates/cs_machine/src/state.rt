@@ -1,4 +1,4 @@
-// What a note keeps from cycle to cycle, and what it plays in.
+// What a note stores from cycle to cycle, and what it plays in.
 ghost use Rattle.std.specs.Prelude.{◌≡◌, ℕ, ℤ, List, [], None, replicate, IfOk};
 ghost use Rattle.cs_cells.specs.declared.footprint.Area.{Area};
 ghost use Rattle.cs_ir.specs.Machine.{new_machine};
@@ -13,26 +13,26 @@ use cs_cells::Layout;
 use cs_ir::{Counts, Kind};
 use std::alloc::Global;
 
-/// What a note keeps from cycle to cycle. Layers above take its parts one by one, so that a unit may be run while the
-/// registers are read.
+/// What a note stores from cycle to cycle. Layers above use its parts one by one, so that a unit can run
+/// while the registers are read.
 #[derive(Drop)]
 pub struct State<'p> {
-    /// What the registers of its code hold.
+    /// The registers of its code.
     pub regs: Registers,
-    /// The unit of each number, where it was started.
+    /// The unit of each number, if it was started.
     pub players: Vec<Option<Player<'p>>>,
-    /// What it has given to each output channel in this cycle.
+    /// The samples that it has written to each output channel in this cycle.
     pub outs: Outputs,
-    /// How many samples its delays keep together.
+    /// The number of samples in all its delays.
     pub delays: usize,
-    /// Whether it was turned off.
+    /// Whether the note was turned off.
     pub ended: bool,
-    /// Room for a row, of as many numbers as a control cycle has frames. What they are means nothing.
+    /// A buffer for a row, with a number for each frame of a control cycle. Its contents don't matter.
     pub row: Vec<Num>,
 }
 
-/// What a note plays in: the header, where what notes share has its cells, how many places each zak space has, and the
-/// p-fields that it was given, from p1 on; any further one is 0.
+/// What a note plays in: the header, the layout of the cells that notes share, the number of places in each
+/// zak space, and the note's p-fields, from p1 on; any further p-field is 0.
 #[derive(Clone, Copy)]
 pub struct NoteSetting<'s> {
     pub head: &'s Head,
@@ -42,9 +42,10 @@ pub struct NoteSetting<'s> {
 }
 
 impl<'p> State<'p> {
-    /// A note that hasn't begun: its registers and channels are silent, no unit was started. All memory that its
-    /// registers, channels and list of units need is taken now. `channels` are those of the piece, of `ksmps` frames
-    /// each; where no register is of sounds it has none.
+    /// Makes the state of a note that hasn't begun: its registers and channels are silent, and no unit was
+    /// started. All the memory for its registers, channels and list of units is allocated now. `channels` is
+    /// the number of channels of the piece, each with `ksmps` frames; without audio registers the state has
+    /// no channels.
     pub fn new(
         alloc: Global,
         counts: Counts,
@@ -67,8 +68,8 @@ impl<'p> State<'p> {
     }
 }
 
-/// How many of so many channels a note can give to: none where no register is of sounds, since what is given is a
-/// register of sounds.
+// Returns the number of channels that a note can write to: none if no register is an audio register, since
+// only audio registers are sent to channels.
 fn channels_for(counts: &Counts, channels: usize) -> usize
     ensures { result ≡ channels_for counts.now channels }
 {
@@ -80,7 +81,7 @@ fn channels_for(counts: &Counts, channels: usize) -> usize
     }
 }
 
-/// So many places for units, none of which was started.
+// Returns `count` places for units, none of which was started.
 fn no_players<'p>(alloc: Global, count: usize) -> Result<Vec<Option<Player<'p>>>, OutOfMemory>
     ensures { IfOk result (λ v. v.items ≡ replicate count None) }
 {

@@ -1,4 +1,4 @@
-// Live tables that are stored into.
+// Stores into live tables.
 ghost use Rattle.std.specs.Prelude.{◌≡◌, ◌+◌, ◌≤◌, true, Some};
 ghost use Rattle.cs_machine.specs.Access.{CanSet};
 ghost use Rattle.cs_base.specs.declared.resource.Rate.TheVariants as rate;
@@ -15,7 +15,7 @@ use cs_cells::{Area, Bank};
 use cs_gen::{len_of, place_of_index};
 use cs_signal::Operand;
 
-/// Stores into a live table: at each step a value, at the place of an index brought into the table.
+/// Stores into a live table: at each step one value, at an index that is clipped to the table.
 pub fn store<B: Bank>(bank: &mut B, area: Area, steps: usize, sig: &Operand, ndx: &Operand)
     requires power { is_len (len_of area.length) ≡ true }
     requires write { CanSet (B.access (B.rest bank.old)) area }

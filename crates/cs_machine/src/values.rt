@@ -1,4 +1,4 @@
-// What a note is given beside its registers: p-fields, and what the header says.
+// What a note receives besides its registers: p-fields, and the values of the header.
 ghost use Rattle.std.specs.Prelude.{◌≡◌, ◌≤◌, ◌*◌, ◌-◌, pos};
 ghost use Rattle.cs_meaning.specs.Pieces.{head_value};
 ghost use Rattle.cs_signal.specs.Operands.{argument};
@@ -7,7 +7,7 @@ ghost use Rattle.cs_typed.specs.TypedTree.{header_of_head};
 use cs_base::{Head, Num};
 use cs_words::HeadName;
 
-/// A p-field by its number, of those from p1 on; 0 past the last.
+/// Returns a p-field by its number, counted from p1, or 0 after the last one.
 #[inline(always)]
 pub fn field_of(fields: &[Num], field: u32) -> Num
     ensures { result ≡ argument fields.now (field - 1) }
@@ -18,7 +18,7 @@ pub fn field_of(fields: &[Num], field: u32) -> Num
     }
 }
 
-/// What the header says.
+/// Returns a value of the header.
 pub fn head_value(head: &Head, name: HeadName) -> Num
     ensures { result ≡ head_value (header_of_head head.now) name }
 {

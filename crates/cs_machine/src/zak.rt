@@ -16,7 +16,7 @@ use cs_cells::Bank;
 use cs_ir::{Reach, places_of, zak_place};
 use cs_words::Space;
 
-/// Sets the places from one value to another to 0, as far as the space has them and the reach goes.
+/// Sets the places from one value to another to 0, as far as they are in the space and within reach.
 pub fn clear_places<B: Bank>(
     bank: &mut B,
     at: &NoteSetting<'_>,
@@ -35,7 +35,7 @@ pub fn clear_places<B: Bank>(
         else cell (B.cells bank.old) a) }
     ensures rest { B.rest bank.new ≡ B.rest bank.old }
 {
-    // No two areas are of one resource.
+    // For the prover: no two areas belong to one resource.
     let _ = at.layout.words();
     let places = places_of(at.spaces, space) as usize;
     let to = index(last);
@@ -47,7 +47,7 @@ pub fn clear_places<B: Bank>(
     }
 }
 
-/// Sets one place of a space to 0, where it is within reach.
+// Sets one place of a space to 0 if it is within reach.
 fn clear_place<B: Bank>(
     bank: &mut B,
     at: &NoteSetting<'_>,
@@ -65,7 +65,7 @@ fn clear_place<B: Bank>(
         && same_res g (zak_place space number)) (cell (B.cells bank.old)) }
     ensures rest { B.rest bank.new ≡ B.rest bank.old }
 {
-    // No two areas are of one resource.
+    // For the prover: no two areas belong to one resource.
     let _ = at.layout.words();
     if reach.contains(number) {
         let area = area_in(at.layout, zak_place(space, number));
@@ -73,7 +73,8 @@ fn clear_place<B: Bank>(
     }
 }
 
-/// The number behind the last that is cleared of so many: behind the whole number below a value, where there is one.
+// Returns the exclusive end of the places that are cleared: one more than `last`, at most `places`, and 0 if
+// `last` is None.
 fn end_of(places: usize, last: Option<usize>) -> usize
     ensures value { result ≡ end_of places last }
     ensures within { result ≤ places }
@@ -85,7 +86,7 @@ fn end_of(places: usize, last: Option<usize>) -> usize
     }
 }
 
-/// The first number that is cleared: the whole number below a value, where it is 0 or more, and the end at most.
+// Returns the first number that is cleared: `first`, or 0 if it is None, and at most `end`.
 fn from_of(end: usize, first: Option<usize>) -> usize
     ensures value { result ≡ from_of end first }
     ensures within { result ≤ end }

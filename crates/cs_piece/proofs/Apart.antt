@@ -1,4 +1,4 @@
--- No two of the tables that a plot gives first have one number.
+-- No two of the first definitions of tables in a plot have the same number.
 use Rattle.std.proofs.Common.{◌≡◌, ℕ, zero, suc, ◌==◌, Bool, true, false, not, List, [], ◌∷◌, map, slice_get, Some}
 use Rattle.std.proofs.Common.{cond, refl, sym, ◌∙◌, ap, subst}
 use Rattle.std.specs.{List.filter, Option.is_some}
@@ -52,7 +52,7 @@ module _ {X Y : Type 0} (m : X → Y) (f : Y → ℕ) (g : X → ℕ) (same : (x
     differ_map xs h.1,
   )
 
--- the first of each number are of different numbers
+-- the first definitions have different numbers
 others_left : (x : Given) (gs : List Given)
     → NoneHas (λ (g : Given). g.number) x.number (filter (λ (h : Given). not (h.number == x.number)) gs)
 others_left x [] = tt

@@ -1,4 +1,4 @@
--- Tables by ascending number.
+-- Tables in ascending order of number.
 use Rattle.std.proofs.Common.{◌≡◌, ◌≢◌, ◌<◌, ◌≤◌, ◌∙◌, ◌⊎◌, inl, inr, ℕ, zero, suc, Bool, true, false, nat_lt, eqb}
 use Rattle.std.proofs.Common.{List, [], ◌∷◌, length, map, slice_index_or, refl, ap, sym, subst, arith, if◌then◌else◌}
 use Rattle.std.specs.List.{AllByRecursion as Each, Contains, IsDistinct}
@@ -22,7 +22,7 @@ use Rattle.cs_typed.specs.TypedTree as typed
 abbrev pub number_of : Table → ℕ
 number_of t = t.number
 
--- what holds of each table holds of each when one more is put in, and of all in order
+-- what holds for each table still holds for each after one more is inserted, and after all are sorted
 pub each_put : (P : Table → Type 0) (t : Table) (us : List Table) → P t → Each P us → Each P (put_in t us)
 each_put P t [] p h = (p, tt)
 each_put P t (u ∷ us) p h = by (nat_lt u.number t.number) (each_put P t us p h.1)
@@ -35,7 +35,7 @@ pub each_ascending : (P : Table → Type 0) (ts : List Table) → Each P ts → 
 each_ascending P [] h = tt
 each_ascending P (t ∷ ts) h = each_put P t (ascending ts) h.0 (each_ascending P ts h.1)
 
--- no two of one number are still none
+-- no two tables have the same number after one more is inserted
 none_put : (n : ℕ) (t : Table) (us : List Table) → (t.number ≡ n → ⊥) → NoneHas number_of n us
     → NoneHas number_of n (put_in t us)
 none_put n t [] p h = (p, tt)
@@ -64,7 +64,7 @@ differ_ascending [] h = tt
 differ_ascending (t ∷ ts) h =
     differ_put t (ascending ts) (none_ascending t.number ts h.0) (differ_ascending ts h.1)
 
--- and they rise
+-- the tables are in strictly ascending order
 abbrev Rising : List Table → Type 0
 Rising [] = Unit {0}
 Rising (t ∷ ts) = Each (λ (u : Table). t.number < u.number) ts × Rising ts
@@ -116,7 +116,7 @@ each_among P [] z h k = absurd k
 each_among P (t ∷ ts) z h (inl e) = subst P e h.0
 each_among P (t ∷ ts) z h (inr k) = each_among P ts z h.1 k
 
--- as an index says it
+-- a list has an element at some index
 pub there : {X : Type 0} (xs : List X) (z : X) → Among xs z → Contains xs z
 there [] z h = absurd h
 there (x ∷ xs) z (inl e) = (0, omega arith, e)
@@ -130,7 +130,7 @@ among_at (t ∷ ts) (suc k) z l e = inr (among_at ts k z (omega (arith, l)) e)
 among : (ts : List Table) (z : Table) → Contains ts z → Among ts z
 among ts z h = among_at ts h.0 z h.1 h.2
 
--- the tables in order are the same tables
+-- the sorted tables are the same tables
 put_among : (t z : Table) (us : List Table) → Among (t ∷ us) z → Among (put_in t us) z
 put_among t z [] h = h
 put_among t z (u ∷ us) h = by (nat_lt u.number t.number) (put_among t z us) h
@@ -169,7 +169,7 @@ from_order z (t ∷ ts) h = by (among_put t z (ascending ts) h) (from_order z ts
     by (inl e) later = inl e
     by (inr k) later = inr (later k)
 
--- two rising lists of the same tables are one
+-- two strictly ascending lists of the same tables are equal
 heads : (t u : Table) (ts us : List Table) → Each (λ (x : Table). t.number < x.number) ts
     → Each (λ (x : Table). u.number < x.number) us → Among (u ∷ us) t → Among (t ∷ ts) u → t ≡ u
 heads t u ts us low high (inl e) k = sym e
@@ -199,7 +199,7 @@ one_list (t ∷ ts) (u ∷ us) r s f g =
     (λ z k. tail u t z us ts (sym first) s.0 k (g z (inr k))) in
     λ i. first i ∷ rest i
 
--- a list that doesn't fall, and no two of which have one number, rises
+-- a list in ascending order, no two elements of which have the same number, is strictly ascending
 all_strictly : (n : ℕ) (ts : List Table) → Each (λ (u : Table). n ≤ u.number) ts
     → Each (λ (m : ℕ). eqb n m ≡ false) (map number_of ts) → Each (λ (u : Table). n < u.number) ts
 all_strictly n [] h d = tt
@@ -227,7 +227,7 @@ apart_all (t ∷ ts) h =
 flips : (a b : ℕ) → eqb a b ≡ eqb b a
 flips a b = grind (arith, nat_tests)
 
--- Tables that were sorted by number are those in order.
+-- Tables that were sorted by number are the tables in order.
 pub sorted_is : (ts us : List Table) → IsPermutation ts us → IsNonDecreasingBy number_of us → Differ number_of ts
     → us ≡ ascending ts
 sorted_is ts us p up d =
@@ -236,7 +236,7 @@ sorted_is ts us p up d =
     (λ z k. to_order z ts (among ts z (Contains-permutation us ts z (IsPermutation-sym ts us p) (there us z k))))
     (λ z k. among us z (Contains-permutation ts us z p (there ts z (from_order z ts k))))
 
--- tables as pieces keep them, by the numbers that the definitions see
+-- tables as pieces store them, by the numbers that the definitions see
 at_mapped : (ts : List PieceTable) (k : ℕ) (d : PieceTable) (e : Table) → k < length ts
     → number_of (slice_index_or (map table_of ts) k e) ≡ (slice_index_or ts k d).number
 at_mapped [] k d e l = absurd (omega (arith, l))
@@ -260,7 +260,7 @@ up_mapped (t ∷ ts) up i j e le l =
 
 -- THE TABLES OF A PLOT
 
--- those that are made of what was given first
+-- the tables that are made of the first definitions
 by_given : (times : List Times) (w : Marks) (xs : List GivenTable)
     → map (λ x. table_by times w (given_of x)) xs ≡ map (table_by times w) (map given_of xs)
 by_given times w [] = refl

@@ -1,4 +1,4 @@
--- The instrument of a number: among the codes and in the text.
+-- The instrument with a number: among the codes and in the text.
 use Rattle.std.proofs.Common.{◌≡◌, ℕ, ℤ, pos, zero, suc, ◌<◌, ⊎_elim, Bool, true, false, List, [], ◌∷◌, ◌++◌, length}
 use Rattle.std.proofs.Common.{get_or, slice_get, Some, None, if◌then◌else◌, refl, sym, ◌∙◌, ap, subst, arith}
 use Rattle.std.specs.{List.All, List.AllZip, Ordering.int_eq}
@@ -13,11 +13,11 @@ use Rattle.cs_base.specs.declared.spaces.Spaces.{Spaces}
 use Rattle.cs_piece.specs.Compositions.{body_of}
 use Rattle.cs_typed.specs.TypedTree as typed
 
--- an instrument stands somewhere in a list
+-- an instrument occurs in a list
 abbrev pub IsIn : List Numbered → Numbered → Type 0
 IsIn l i = (k : ℕ) × (slice_get l k ≡ Some i)
 
--- the first body of a number, with the codes of an instrument of that number
+-- the first body with a number, with the codes of an instrument with that number
 pub record HasFirst (spaces : Spaces) (channels : ℕ) (ps : List (ℕ × typed.Block)) (is : List Numbered) (z : ℤ) : Type
     0 where
   pub body : typed.Block
@@ -99,7 +99,7 @@ pub moved : (xs ys : List Numbered) → IsPermutation xs ys → (k : ℕ) (i : N
 moved xs ys p k i at = at_all (IsIn ys) xs k i (All-permutation (IsIn ys) ys xs (IsPermutation-sym xs ys p) (all_in ys))
     at
 
--- no two instruments of one number
+-- no two instruments have the same number
 record NumberedAt (l : List Numbered) (k n : ℕ) : Type 0 where
   pub within : k < length (numbers_of l)
   pub is : get_or (numbers_of l) k 0 ≡ n
@@ -153,7 +153,7 @@ no_body o l z are fails =
     none_of o.spaces o.head.nchnls z (bodies o.instrs) are.in_text are.each
     (λ k i at n. let there = moved are.in_text l are.same k i at in fails there.0 i there.1 n)
 
--- what holds of the body of each instrument holds of the body of each number
+-- what holds for the body of each instrument holds for the body of each number
 module _ (P : typed.Block → Type 0) where
   abbrev AllBodies : List (ℕ × typed.Block) → Type 0
   AllBodies [] = Unit {0}

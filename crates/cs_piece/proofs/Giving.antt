@@ -1,4 +1,4 @@
--- What is given of tables, one more at a time.
+-- The definitions of tables, one more at a time.
 use Rattle.std.proofs.Common.{◌≡◌, ℕ, zero, suc, ◌+◌, ◌==◌, ◌<◌, ◌⊎◌, inl, inr, ⊎_elim, Bool, true, false, not, List}
 use Rattle.std.proofs.Common.{[], ◌∷◌, ◌++◌, length, get_or, slice_set, map, cond, refl, sym, ◌∙◌, ap, subst, arith}
 use Rattle.std.specs.List.{filter}
@@ -12,7 +12,7 @@ use Rattle.cs_piece.specs.declared.tables.Times.{Times}
 use Rattle.cs_piece.specs.inner.Marked.{StandFor, as_times, given_of, numbers_end, times_at}
 use Rattle.cs_piece.specs.declared.tables.Times.TheVariants as times
 
--- a test whose answer is known
+-- a test whose result is known
 cond_yes : {A : Type 0} (b : Bool) (x y : A) → b ≡ true → cond b x y ≡ x
 cond_yes true x y e = refl
 cond_yes false x y e = absurd cc
@@ -21,7 +21,7 @@ cond_no : {A : Type 0} (b : Bool) (x y : A) → b ≡ false → cond b x y ≡ y
 cond_no true x y e = absurd cc
 cond_no false x y e = refl
 
--- how often a number is given, with one table more
+-- how often a number is defined, with one more definition at the end
 plus_one : (n : ℕ) → n + (0 + 1) ≡ suc n
 plus_one n = omega arith
 
@@ -41,12 +41,12 @@ given_else n gs g other =
     ∙ ap (λ m. times_given n gs + (0 + m)) (cond_no (g.number == n) 1 0 (ne_eqb g.number n other))
     ∙ plus_none (times_given n gs)
 
--- and with one before all others
+-- how often a number is defined, with one more definition at the start
 before : (n : ℕ) (x : Given) (gs : List Given)
     → times_given n (x ∷ gs) ≡ (0 + cond (x.number == n) 1 0) + times_given n gs
 before n x gs = sum_by-append (λ (h : Given). cond (h.number == n) 1 0) (x ∷ []) gs
 
--- a number that wasn't given before goes last
+-- a number that wasn't defined before goes last
 turned : (m n : ℕ) → (m == n) ≡ false → (n == m) ≡ false
 turned m n e = ne_eqb n m (λ f. eqb-false m n e (sym f))
 
@@ -74,7 +74,7 @@ first_now (x ∷ gs) g e =
     ∙ ap (λ l. x ∷ l) (filter-append (λ (h : Given). not (h.number == x.number)) (firsts gs) (g ∷ []))
     ∙ ap (λ l. x ∷ (filter (λ (h : Given). not (h.number == x.number)) (firsts gs) ++ l)) (kept_last x g none.0)
 
--- a number that was given before stays where it is
+-- a number that was defined before stays at its index
 more_or_none : (n : ℕ) → (n ≡ 0) ⊎ (0 < n)
 more_or_none zero = inl refl
 more_or_none (suc n) = inr (omega arith)
@@ -93,7 +93,7 @@ not_first (x ∷ gs) g l = by_test (x.number == g.number)
     (not_first gs g (some_later (x.number == g.number) (times_given g.number gs) e
     (subst (λ m. 0 < m) (before g.number x gs) l))))
 
--- how often a number is given, by what is told of it
+-- how often a number is defined, from what the code stores
 never_is : (m : ℕ) → as_times m ≡ times.Never → m ≡ 0
 never_is zero e = refl
 never_is (suc zero) e = absurd cc
@@ -107,7 +107,7 @@ again_is : (m : ℕ) → 0 < m → times.Again ≡ as_times (suc m)
 again_is zero l = absurd (omega (arith, l))
 again_is (suc m) l = refl
 
--- what stands for what was given, with one table more
+-- what represents the definitions, with one more of them
 module _ (old new : Firsts) (x : GivenTable) (gs : List Given) (t u : Times) (stand : StandFor gs old)
     (long : length old.times.items ≡ numbers_end) (low : x.number < numbers_end)
     (is : t ≡ times_at old.times.items x.number)
@@ -146,7 +146,7 @@ module _ (old new : Firsts) (x : GivenTable) (gs : List Given) (t u : Times) (st
             ∙ times_more (again ∙ again_is (times_given x.number gs) some) n l;
       }
 
--- an element that is there is read whatever stands for one that isn't
+-- an element within the list doesn't depend on the default
 pub any_default : {X : Type 0} (xs : List X) (i : ℕ) (d e : X) → i < length xs → get_or xs i d ≡ get_or xs i e
 any_default [] i d e l = absurd (omega (arith, l))
 any_default (x ∷ xs) zero d e l = refl

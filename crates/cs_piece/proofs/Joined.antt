@@ -1,4 +1,4 @@
--- The meaning of a note's codes and the voice's world joined.
+-- The meaning of a note's codes and the voice's world, combined.
 use Rattle.std.proofs.Common.{◌≡◌, ℕ, ℤ, ◌+◌, ◌<◌, ◌≤◌, length, true, false, List, [], ◌∷◌, Option, Some, None, refl}
 use Rattle.std.proofs.Common.{sym, ◌∙◌, ap, subst, arith}
 use Rattle.std.specs.Option.{is_some}
@@ -27,7 +27,7 @@ use Rattle.cs_ir.specs.declared.op.Act.TheVariants as act
 at : (f g : Reg → Wave) → f ≡ g → (q : Reg) → f q ≡ g q
 at f g e q = λ i. e i q
 
--- ---- what is named of some resources is named of more
+-- ---- what holds for some resources holds for more
 
 all_wider : (N M : Res → Type 0) → ((g : Res) → N g → M g) → (gs : List Res) → AreNamed N gs → AreNamed M gs
 all_wider N M wide [] h = tt
@@ -55,7 +55,7 @@ low : (area : Area) (a n : ℕ) → area.first + area.length ≤ n → in_area (
 low area a n h inside = grind (arith, nat_tests)
 
 module _ (s : Sheet) (playable : IsPlayable s) where
-  -- each cell of an area is there
+  -- each cell of an area exists
   near : (g : Res) (area : Area) (c : Cells) (a : ℕ) → word_count s.areas ≤ length c → area_of s.areas g ≡ Some area
       → in_area (Some area) a ≡ true → a < length c
   near g area c a long has inside =
@@ -181,7 +181,7 @@ module _ (s : Sheet) (playable : IsPlayable s) where
       goes_on = λ v t c shared long stands hold. goes_on_so v t c shared long hold stands;
     }
 
--- what can be played, by codes that mean the statements, is performed
+-- codes that mean the statements and can be played are performed
 pub performs : (s : Sheet) (body : Block) (means : Means body s.init s.perf) (playable : IsPlayable s)
     → s.piece.generators ≡ the_generators (pace_of s.piece.head) → Perform means.plan playable.kinds s body
 performs s body means playable gen = perform_so s playable body means.plan means.each gen

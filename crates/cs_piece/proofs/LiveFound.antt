@@ -25,7 +25,7 @@ none_some : (o : Option (List ℤ)) → not (is_some o) ≡ true → o ≡ None
 none_some None h = refl
 none_some (Some x) h = absurd cc
 
--- where no table has a number, no live one has
+-- if no table has a number, no live one has it
 none_live : (n : ℕ) (cs : List Table) → NoneHas (λ (t : Table). t.number) n cs → any_live n (live_in cs) ≡ true → ⊥
 none_live n [] h e = absurd cc
 none_live n (c ∷ cs) h e = by (not (is_some c.frozen)) (none_live n cs h.1) e

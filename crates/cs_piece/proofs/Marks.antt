@@ -15,7 +15,7 @@ pub or_three : (a b c : Bool) → ((a || b) || c) ≡ (a || (b || c))
 or_three true b c = refl
 or_three false b c = refl
 
--- what is marked, with one more thing that may mark it
+-- what is marked, with one more resource that may mark it
 pub marked_more : {X : Type 0} (p : X → Bool) (xs : List X) (i : ℕ) (d : X) (old now new b : Bool)
     → b ≡ p (get_or xs i d) → i < length xs
     → now ≡ (old || list_any p (take i xs)) → new ≡ (now || b) → new ≡ (old || list_any p (take (i + 1) xs))
@@ -23,14 +23,14 @@ marked_more p xs i d old now new b here within before after =
     after ∙ ap (λ a. a || b) before ∙ or_three old (list_any p (take i xs)) b
     ∙ ap (λ y. old || (list_any p (take i xs) || y)) here ∙ ap (λ a. old || a) (sym (list_any_more p xs i d within))
 
--- an element of a part passes a test
+-- some element of a part passes a test
 pub any_of_parts : {X Y : Type 0} (p : Y → Bool) (f : X → List Y) (xs : List X)
     → list_any (λ x. list_any p (f x)) xs ≡ list_any p (flat_map f xs)
 any_of_parts p f [] = refl
 any_of_parts p f (x ∷ xs) =
     ap (λ b. list_any p (f x) || b) (any_of_parts p f xs) ∙ sym (list_any-append p (f x) (flat_map f xs))
 
--- a list of one element alone, whatever the place
+-- a list of equal elements, at any index
 pub all_are : {X : Type 0} (xs : List X) (count n : ℕ) (d : X) → xs ≡ replicate count d → get_or xs n d ≡ d
 all_are xs count n d e = ap (λ l. get_or l n d) e ∙ ⊎_elim
     (λ l. get_or-replicate count n d d l)

@@ -1,4 +1,4 @@
--- What an instrument's codes touch lies in its areas and in its footprint.
+-- What an instrument's codes touch is in its areas and in its footprint.
 use Rattle.std.proofs.Common.{◌≡◌, ℕ, zero, suc, ◌<◌, ◌||◌, ◌&&◌, ◌+◌, ◌++◌, Bool, true, not, List, [], ◌∷◌, length}
 use Rattle.std.proofs.Common.{nat_lt, slice_get, Option, Some, None, refl, sym, ◌∙◌, ap, subst, arith}
 use Rattle.std.specs.List.{Contains, list_all}
@@ -115,7 +115,7 @@ area_in : (o : Option Area) (a : ℕ) → in_area o a ≡ true → (area : Area)
 area_in None a h = absurd (cc)
 area_in (Some area) a h = (area, refl)
 
--- the places of some resources cover each cell of one of them
+-- the areas of some resources cover each cell of one of them
 covered : (areas : List Area) (rs : List Res) (g : Res) (area : Area) (a : ℕ) → area_of areas g ≡ Some area
     → Contains rs g → in_area (Some area) a ≡ true → covers areas (places_holding areas rs) a ≡ true
 covered areas rs g area a e among inside =

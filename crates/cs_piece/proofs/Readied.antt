@@ -27,7 +27,7 @@ use Rattle.cs_piece.specs.Setups.{IsSetup, SetupData, composition_of}
 use Rattle.cs_base.specs.declared.resource.Res.TheVariants as res
 use Rattle.cs_typed.specs.TypedTree as typed
 
--- all of some resources are there
+-- all of some resources have the property
 all_there : (H : Res → Type 0) (gs : List Res) → ((g : Res) → Contains gs g → H g) → AreNamed H gs
 all_there H [] f = tt
 all_there H (g ∷ gs) f = (f g (contains_first g gs), all_there H gs (λ h c. f h (contains_rest g h gs c)))
@@ -64,7 +64,7 @@ live_area (a ∷ areas) n e = by_test (same_res a.res (res.Table n))
     (λ fails. later_area a areas (res.Table n)
     (live_area areas n (other_number a.res n (filter_map (λ (x : Area). table_number x.res) areas) fails e)))
 
--- what a piece has, has its area
+-- each resource of a piece has its area
 has_area : (ksmps : ℕ) (names : SharedNames) (spaces : Spaces) (live : List LiveTable) (g : Res)
     → is_there names (stock_of (areas_of ksmps names spaces live)) g ≡ true
     → HasArea (areas_of ksmps names spaces live) g
@@ -93,14 +93,14 @@ has_area ksmps names spaces live g e = by g e
         ∙ ap (λ (s : Spaces). nat_lt n s.audio) (sym (spaces_are ksmps names spaces live)) ∙ f)
     by (res.Table n) f = live_area (areas_of ksmps names spaces live) n f
 
--- what notes touch is there, as cs_name_laws has it
+-- what notes touch exists, as a law of cs_name_laws states
 abbrev pub TouchWhatIsThere : Type 0
 TouchWhatIsThere = (names : SharedNames) (b : typed.Block) → IsNamedBlock names b
     → (spaces : Spaces) (stock : Stock) (g : Res)
     → Contains (block_uses stock (core spaces b) ++ block_begins stock (core spaces b)) g
     → is_there names stock g ≡ true
 
--- What is ready of an instrument in a piece with such zak spaces and so many channels.
+-- What is ready about an instrument in a piece with these zak spaces and channels.
 record IsReady (stage : Stage) (i : Numbered) (foot : Footprint) (spaces : Spaces) (body : typed.Block) : Type 0 where
   pub plan : RegisterPlan
   pub playable : (age : ℕ) (flags : List Bool) (fields : List ℤ) → length flags ≡ length stage.tables.now
@@ -113,7 +113,7 @@ module _ (c : SetupData) (stage : Stage) (is_stage : IsStageOf (composition_of c
     (foot : Footprint) (body : typed.Block) (feet : IsFootOver stage.layout.now stage.zones.now i.perf foot)
     (named : (g : Res) → (spaces : Spaces) → Contains (block_uses (stock_of stage.layout.now) (core spaces body)
     ++ block_begins (stock_of stage.layout.now) (core spaces body)) g → HasArea stage.layout.now g) where
-  -- what statements use in a cycle, and as a note begins
+  -- what statements use in a cycle, and as a note begins, has its area
   uses_there : (spaces : Spaces) (g : Res) → Contains (block_uses (stock_of stage.layout.now) (core spaces body)) g
       → HasArea stage.layout.now g
   uses_there spaces g k =
@@ -183,7 +183,7 @@ module _ (c : SetupData) (stage : Stage) (is_stage : IsStageOf (composition_of c
             (block_writes (stock_of areas) statements) (code.touches.cycles may_write (stock_of areas)));
       }
 
--- What a setup hands out is ready on its stage.
+-- What a setup returns is ready on its stage.
 module _ (touched : TouchWhatIsThere) (c : SetupData) (h : IsSetup c) (stage : Stage)
     (is_stage : IsStageOf (composition_of c) stage) (laid : stage.layout.now ≡ c.layout)
     (zoned : stage.zones.now ≡ c.zones) (i : Numbered) (foot : Footprint) (body : typed.Block)
@@ -205,7 +205,7 @@ module _ (touched : TouchWhatIsThere) (c : SetupData) (h : IsSetup c) (stage : S
       (subst (λ areas. IsFootOver areas stage.zones.now i.perf foot) (sym laid)
       (subst (λ zones. IsFootOver c.layout zones i.perf foot) (sym zoned) feet)) touches code
 
--- footprints stand at their instruments' places
+-- footprints are at their instruments' indexes
 pub foot_at : (areas zones : List Area) (is : List Numbered) (feet : List Footprint) (k : ℕ) (i : Numbered)
     (foot : Footprint)
     → AllZip (λ (x : Numbered) (f : Footprint). IsFootOver areas zones x.perf f) is feet → slice_get is k ≡ Some i
@@ -217,7 +217,7 @@ foot_at areas zones (x ∷ is) (y ∷ feet) zero i foot h e f =
     (λ j. (some_is x i e j, some_is y foot f j)) h.0
 foot_at areas zones (x ∷ is) (y ∷ feet) (suc k) i foot h e f = foot_at areas zones is feet k i foot h.1 e f
 
--- what is handed out of a number
+-- what a setup returns for a number
 module _ (touched : TouchWhatIsThere) (s : SetupData) (h : IsSetup s) where
   pub handed_out : (place : ℕ) (i : Numbered) (foot : Footprint) → slice_get s.lowered.instruments place ≡ Some i
       → slice_get s.feet place ≡ Some foot → (z : ℤ) → pos i.number ≡ z
@@ -246,7 +246,7 @@ module _ (touched : TouchWhatIsThere) (s : SetupData) (h : IsSetup s) where
       ready_for touched s h stage is_stage laid zoned s.lowered.zero s.zero_foot (typed.orchestra s.orchestra).zero
       h.named.zero h.zero_touches h.zero_code
 
--- one instrument more isn't the one that is looked for
+-- one more instrument isn't the one that is looked for
 pub none_more : (l : List Numbered) (place : ℕ) (x : Numbered) (z : ℤ)
     → ((k : ℕ) (i : Numbered) → k < place → slice_get l k ≡ Some i → pos i.number ≡ z → ⊥)
     → slice_get l place ≡ Some x → (pos x.number ≡ z → ⊥) → (k : ℕ) (i : Numbered) → k < place + 1

@@ -1,4 +1,4 @@
--- Which tables are found by the codes and the events is what the definitions say.
+-- The code finds the same tables from codes and events as the definitions.
 use Rattle.std.proofs.Common.{◌≡◌, ℕ, zero, suc, ◌==◌, ◌<◌, ◌≤◌, Bool, true, false, not, ◌&&◌, ◌||◌, List, [], ◌∷◌}
 use Rattle.std.proofs.Common.{◌++◌, map, cond, refl, sym, ◌∙◌, ap, arith}
 use Rattle.std.specs.List.{All, AllByRecursion, AllZip, filter, list_any}
@@ -21,7 +21,7 @@ use Rattle.cs_base.specs.declared.resource.Res.TheVariants as res
 use Rattle.cs_tempo.specs.declared.plot.EventAct.TheVariants as act
 use Rattle.cs_typed.specs.TypedTree as typed
 
--- what events give has a number of tables and no fault
+-- each table that events define has a valid number and no fault
 abbrev pub AreRight : List Given → Type 0
 AreRight gs = AllByRecursion IsRight gs
 
@@ -83,7 +83,7 @@ written_as o l n are =
     sym (list_any-IsPermutation (codes_store n) are.in_text l are.same)
     ∙ any_alike n o.spaces o.head.nchnls (bodies o.instrs) are.in_text are.each
 
--- tables by what was found
+-- tables, by what the code found
 once_as : (m : ℕ) → is_once (as_times m) ≡ (m == 1)
 once_as zero = refl
 once_as (suc zero) = refl

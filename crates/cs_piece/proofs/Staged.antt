@@ -1,4 +1,5 @@
--- The stage of a setup: its tables are those of the composition, and what its notes share is placed in its layout.
+-- The stage of a setup: it has the tables of the composition, and what its notes share has areas in its
+-- layout.
 use Rattle.std.proofs.lemmas.{Bool.or_left, Bool.or_right, Bool.eq-eqb, List.length-map, Option.slice_get-get_or}
 use Rattle.std.proofs.Common.{◌≡◌, ℕ, ℤ, zero, suc, ◌<◌, ◌≤◌, ◌==◌, ◌&&◌, Bool, true, false, not, List, [], ◌∷◌, get_or}
 use Rattle.std.proofs.Common.{length, map, pos, slice_get, unsigned_abs, Option, Some, None, cond, if◌then◌else◌, refl}
@@ -37,7 +38,7 @@ use Rattle.cs_base.specs.declared.resource.Res.TheVariants as res
 use Rattle.cs_typed.specs.TypedTree as typed
 use Rattle.cs_piece.specs.Tables as pieces
 
--- what is asked of a table of a plot
+-- what a table of a plot has to satisfy
 pub record IsSound (t : Table) : Type 0 where
   pub some : 0 < t.size
   pub power : is_len (len_of t.size) ≡ true
@@ -119,7 +120,7 @@ found_in (x ∷ ts) (m ∷ flags) (c ∷ cs) n t e f =
               r.frozen;
         }
 
--- where a table that isn't frozen stands among the live ones
+-- the index of a table that isn't frozen among the live ones
 abbrev as_live : Table → LiveTable
 as_live t = record { number = t.number; size = t.size }
 
@@ -200,7 +201,7 @@ module _ (ksmps : ℕ) (names : SharedNames) (spaces : Spaces) (cs : List Table)
             ∙ any_live (live_in cs) p.0 t.number t.size p.1);
       }
 
--- the tables of a setup are those of its composition, as a note finds them once they have been made
+-- a setup has the tables of its composition, as a note finds them once they have been made
 all_made : (ts : List PieceTable) → map table_of ts ≡ map made (map pieces.table_of ts)
 all_made [] = refl
 all_made (t ∷ ts) = ap (λ (l : List Table). table_of t ∷ l) (all_made ts)
@@ -208,7 +209,7 @@ all_made (t ∷ ts) = ap (λ (l : List Table). table_of t ∷ l) (all_made ts)
 pub tables_found : (s : SetupData) → IsSetup s → map table_of s.tables ≡ map made (composition_of s).tables
 tables_found s h = all_made s.tables ∙ ap (map made) h.tables_are
 
--- no area of what is placed is empty
+-- no area of a layout is empty
 some_cells : (areas : List Area) (stock : Stock) (piece : Piece) → IsPlaced areas stock piece
     → All (λ (a : Area). 0 < a.length) areas
 some_cells areas stock piece placed k d low =
@@ -239,7 +240,7 @@ some_cells areas stock piece placed k d low =
     has : (x : Area) → area_of areas x.res ≡ Some x → 0 < x.length
     has x is = of x x.res is
 
--- What a setup hands out as its stage.
+-- What a setup returns as its stage.
 module _ (s : SetupData) (h : IsSetup s) (stage : Stage) (head : stage.head.now ≡ s.orchestra.head)
     (laid : stage.layout.now ≡ s.layout) (zoned : stage.zones.now ≡ s.zones)
     (spaces_so : stage.spaces ≡ s.orchestra.spaces)

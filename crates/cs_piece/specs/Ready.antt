@@ -1,4 +1,4 @@
--- What whoever performs a piece rests on: its stage, and its instruments.
+-- What a performer of a piece relies on: its stage, and its instruments.
 use Rattle.std.specs.Prelude.{ℕ, ℤ, ◌≡◌, ◌<◌, Bool, List, length, map, None}
 use Rattle.std.specs.List.{All}
 use Rattle.cs_machine.specs.{Access.AreSpaces, Access.spaces_of, States.header_of}
@@ -15,8 +15,9 @@ use Rattle.cs_voice_meaning.specs.Placing.{HasArea, IsPlaced}
 use Rattle.cs_voice.specs.{Starts.piece_at, Starts.sheet_at, Tables.CanAllBePlayed, Tables.tables_of, Memory.table_of}
 use Rattle.cs_voice.specs.{VoiceData.made, declared.stage.Stage.Stage}
 
--- A stage is that of a composition: its header, zak spaces and tables, a layout in which all that notes share is
--- placed, whichever of the tables have been made, with a cell in each area, and zones of its areas.
+-- A stage belongs to a composition: it has its header, zak spaces and tables, a layout with an area for
+-- everything that notes share, whichever of the tables have been made, with at least one cell in each area,
+-- and zones of its areas.
 pub record IsStageOf (c : Composition) (stage : Stage) : Type 0 where
   pub head : header_of stage.head.now ≡ c.head
   pub spaces : stage.spaces ≡ c.spaces
@@ -32,9 +33,9 @@ pub record IsStageOf (c : Composition) (stage : Stage) : Type 0 where
   pub can_be_played : (flags : List Bool) → length flags ≡ length stage.tables.now
       → CanAllBePlayed stage.layout.now (tables_of stage.tables.now flags)
 
--- An instrument of the stage, with its footprint, has these statements: its notes can begin, whichever tables have
--- been made, and do what the statements say, as they begin and in every cycle. The footprint is what the statements
--- may use and write in a cycle, and all of that has its area.
+-- An instrument of the stage, with its footprint, has these statements: its notes can begin, whichever tables
+-- have been made, and do what the statements say, as they begin and in every cycle. The footprint is
+-- everything that the statements may use and write in a cycle, and all of that has its area.
 pub record IsInstrumentOf (stage : Stage) (i : Numbered) (foot : Footprint) (body : Block) : Type 0 where
   pub plan : RegisterPlan
   pub kinds : Kinds

@@ -1,4 +1,4 @@
--- What a setup is.
+-- Setups: what one consists of, and the composition that it performs.
 use Rattle.std.specs.Prelude.{ℤ, ◌≡◌, ◌≤◌, List, map, None, Some}
 use Rattle.std.specs.{List.AllZip, List.Contains, Option.option_map}
 use Rattle.cs_base.specs.{Limits.most_statements, declared.head.Head.Head, declared.spaces.Spaces.Spaces}
@@ -17,19 +17,20 @@ use Rattle.cs_piece.specs.Tables.{Given, given_in, table_of, tables_in}
 use Rattle.cs_voice.specs.declared.stage.PieceTable.{PieceTable}
 use Rattle.cs_typed.specs.TypedTree as typed
 
--- tables that events give under one number have one size
+-- tables that events define under one number have the same size
 abbrev pub AreOfOneSize : List Event → Type 0
 AreOfOneSize events = (g h : Given) → Contains (given_in events) g → Contains (given_in events) h → g.number ≡ h.number
     → g.size ≡ h.size
 
--- each instrument asks for no more notes than it may have statements
+-- each instrument schedules no more notes than it may have statements
 abbrev pub AskForFew : typed.Orchestra → Type 0
 AskForFew o = (z : ℤ) (body : Block) → option_map (core o.spaces) (body_of (bodies o.instrs) z) ≡ Some body
     → asks_in body ≤ most_statements
 
--- What contracts see of a setup: header and zak spaces, the typed orchestra as it was when its codes were made, the
--- plot, its tables, where the cells of what notes share are, the codes, which of these cells are claimed together, and
--- the footprints over them of what stands outside of instruments and of these, in their order.
+-- What contracts see of a setup: header and zak spaces, the typed orchestra as it was when its codes were
+-- made, the plot, its tables, the layout of the cells that notes share, the codes, the zones of the layout,
+-- and the footprints in terms of zones: of the code outside of instruments, and of the instruments in their
+-- order.
 pub record SetupData : Type 0 where
   pub head : Head
   pub spaces : Spaces
@@ -42,9 +43,9 @@ pub record SetupData : Type 0 where
   pub zero_foot : Footprint
   pub feet : List Footprint
 
--- A setup: header and zak spaces are those of the orchestra, its instruments ask for few notes, the tables are those of
--- the plot, the areas those of the piece and within the limits, the codes are those of the orchestra, the zones are
--- zones of the areas, and the footprints those of the codes over them.
+-- A setup: header and zak spaces are the orchestra's, its instruments schedule few notes, the tables are the
+-- plot's, the areas are the piece's and within the limits, the codes are the orchestra's, the zones are zones
+-- of the areas, and the footprints in terms of them are the codes'.
 pub record IsSetup (s : SetupData) : Type 0 where
   pub head_is : s.head ≡ s.orchestra.head
   pub spaces_are : s.spaces ≡ s.orchestra.spaces

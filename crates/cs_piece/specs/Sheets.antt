@@ -1,4 +1,4 @@
--- Which sheets a note of an instrument is played from.
+-- The sheets from which a note of an instrument is played.
 use Rattle.std.specs.Prelude.{ℕ, ◌≡◌, List, slice_get, Option, Some, None}
 use Rattle.cs_base.specs.declared.resource.Rate.{Rate}
 use Rattle.cs_words.specs.declared.catalogue.Opcode.{Opcode}
@@ -12,16 +12,17 @@ use Rattle.cs_base.specs.declared.resource.Rate.TheVariants as rate
 use Rattle.cs_words.specs.declared.catalogue.Opcode.TheVariants as op
 use Rattle.cs_typed.specs.TypedTree as typed
 
--- the opcode and rate of the unit at each place of the text; past the last any
+-- the opcode and rate of a unit; any opcode and rate if there is no unit
 abbrev pub kind_of : Option UnitKind → Opcode × Rate
 kind_of (Some unit) = (unit.opcode, unit.rate)
 kind_of None = (op.Oscili, rate.Init)
 
+-- the opcode and rate of each unit
 abbrev pub kinds_of : List UnitKind → Kinds
 kinds_of units u = kind_of (slice_get units u)
 
--- A sheet of an instrument's body: its codes are two of the body in the piece, each resource that they may use has
--- its area, and the footprint covers the cells of those of the second code.
+-- A sheet of an instrument's body: its codes are two of the body in the piece, each resource that they may
+-- use has its area, and the footprint covers the cells of the resources of the second code.
 pub record IsSheetOf (s : Sheet) (body : typed.Block) (init perf : Code) : Type 0 where
   pub code : IsCodeOf s.piece.spaces s.piece.head.nchnls body init perf
   pub init_ops : s.init ≡ init.ops

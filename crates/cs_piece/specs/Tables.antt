@@ -1,4 +1,4 @@
--- Which tables a piece has: those that the score gives, each once, and which of them stay as they are made.
+-- The tables of a piece: those that the score defines, each once, and which of them stay as they are made.
 use Rattle.std.specs.Prelude.{ℕ, ℤ, Bool, false, not, ◌&&◌, ◌||◌, ◌==◌, List, [], ◌∷◌, filter, count_by, map, nat_lt}
 use Rattle.std.specs.Prelude.{unsigned_abs, Some, None, if◌then◌else◌}
 use Rattle.std.specs.List.{flat_map, list_any}
@@ -13,31 +13,32 @@ use Rattle.cs_base.specs.declared.resource.Res.TheVariants as res
 use Rattle.cs_tempo.specs.declared.plot.EventAct.TheVariants as act
 use Rattle.cs_typed.specs.TypedTree as typed
 
--- A table as an event gives it: its number, size, GEN and arguments.
+-- A table as an event defines it: its number, size, GEN routine and arguments.
 pub record Given : Type 0 where
   pub number : ℕ
   pub size : ℤ
   pub gen : ℤ
   pub args : List ℤ
 
+-- the tables that an event defines
 abbrev pub given_by : EventAct → List Given
 given_by (act.Start instr cycles fields) = []
 given_by (act.Table number size gen args) = record { number = number; size = size; gen = gen; args = args } ∷ []
 
--- all that events give, in their order
+-- the tables that events define, in their order
 abbrev pub given_in : List Event → List Given
 given_in events = flat_map (λ e. given_by e.act) events
 
--- each number once: where it is given first
+-- each number once, with its first definition
 abbrev pub firsts : List Given → List Given
 firsts [] = []
 firsts (g ∷ rest) = g ∷ filter (λ h. not (h.number == g.number)) (firsts rest)
 
--- how often a number is given
+-- how often a number is defined
 abbrev pub times_given : ℕ → List Given → ℕ
 times_given n gs = count_by (λ g. g.number == n) gs
 
--- a piece that has this live table alone
+-- a piece whose only live table is this one
 abbrev pub only : ℕ → Stock
 only n = record { spaces = record { control = 0; audio = 0 }; live = n ∷ [] }
 
@@ -47,15 +48,15 @@ stores_into n b =
     list_any (same_res (res.Table n)) (block_begin_writes (only n) b)
     || list_any (same_res (res.Table n)) (block_writes (only n) b)
 
--- an instrument of some number may write a table
+-- some instrument may write a table
 abbrev pub may_be_written : typed.Orchestra → ℕ → Bool
 may_be_written o n = list_any (λ (p : ℕ × typed.Block). stores_into n (core o.spaces p.1)) (bodies o.instrs)
 
--- A table is frozen where one event alone gives it and no instrument may write it.
+-- A table is frozen if only one event defines it and no instrument may write it.
 abbrev pub is_frozen : typed.Orchestra → List Given → ℕ → Bool
 is_frozen o gs n = (times_given n gs == 1) && not (may_be_written o n)
 
--- a table as it is given, frozen or not; it hasn't been made yet
+-- a table as it is defined, frozen or not; it hasn't been made yet
 abbrev pub table_given : Bool → Given → Table
 table_given frozen g = record {
   number = g.number;
@@ -64,19 +65,21 @@ table_given frozen g = record {
   present = false;
 }
 
+-- a table as a composition with these definitions has it
 abbrev pub table_in : typed.Orchestra → List Given → Given → Table
 table_in o gs g = table_given (is_frozen o gs g.number) g
 
--- a table put behind those of lower numbers; and tables by ascending number
+-- a table inserted after those with lower numbers
 abbrev pub put_in : Table → List Table → List Table
 put_in t [] = t ∷ []
 put_in t (u ∷ rest) = if nat_lt u.number t.number then u ∷ put_in t rest else t ∷ u ∷ rest
 
+-- tables in ascending order of number
 abbrev pub ascending : List Table → List Table
 ascending [] = []
 ascending (t ∷ rest) = put_in t (ascending rest)
 
--- the tables of a plot, each once, by ascending number
+-- the tables of a plot, each once, in ascending order of number
 abbrev pub tables_in : typed.Orchestra → List Event → List Table
 tables_in o events = ascending (map (table_in o (given_in events)) (firsts (given_in events)))
 

@@ -1,4 +1,4 @@
--- What it is for a voice to perform a note.
+-- What it means that a voice performs a note.
 use Rattle.std.specs.Prelude.{ℕ, ℤ, ◌≡◌, ◌≤◌, List, length, Some, None}
 use Rattle.cs_base.specs.{Rates.res_rate, declared.resource.Rate.Rate, declared.resource.Res.Res}
 use Rattle.cs_ir.specs.Waves.{Wave, constant}
@@ -12,19 +12,20 @@ use Rattle.cs_ugen.specs.Generators.{pace_of}
 use Rattle.cs_voice_meaning.specs.Voices.{Sheet, Sounding, initialised, voice_of, performed, left_by}
 use Rattle.cs_ir.specs.declared.register.Kind.TheVariants as kind
 
--- A note of some statements: as it has begun over what notes share, and after its next cycle.
+-- A note of some statements after it has begun, with the values `shared` of what notes share.
 abbrev pub begun_note : Piece → Block → (Res → Wave) → Note Plain
 begun_note piece body shared = init_block (plain piece) start body (new_note (fresh shared))
 
+-- a note after its next cycle, at whose start notes share these values
 abbrev pub next_note : Piece → Block → (Res → Wave) → Note Plain → Note Plain
 next_note piece body shared t = perf_block (plain piece) start body (moved_to (next_cycle shared t.world) t)
 
--- cells hold what notes share: each resource that has an area
+-- cells hold the values of what notes share, for each resource that has an area
 abbrev pub Hold : List Area → (ℕ → ℤ) → (Res → Wave) → Type 0
 Hold areas cells shared = (g : Res) → HasArea areas g → wave_of (area_of areas g) (res_rate g) cells ≡ shared g
 
--- A voice stands for a note that plays: the same local variables and kept values, each unit where all its inputs so
--- far bring it, and the same output.
+-- A voice represents a note that plays: it has the same local variables and kept values, each unit is in the
+-- state to which all its inputs so far lead, and the output is the same.
 pub record IsVoiceOf (s : Sheet) (plan : RegisterPlan) (kinds : Kinds) (v : Sounding) (t : Note Plain) : Type 0 where
   pub sheet : v.sheet ≡ s
   pub locals : (r : Rate) (n : ℕ) → v.regs (reg r n) ≡ t.locals (reg r n)
@@ -36,9 +37,9 @@ pub record IsVoiceOf (s : Sheet) (plan : RegisterPlan) (kinds : Kinds) (v : Soun
   pub ended : v.ended ≡ t.world.ended
   pub plays : t.world.cause ≡ None
 
--- The code that begins a voice, over cells that hold what notes share, does what the statements do as the note
--- begins: it is refused for the same cause or leaves a voice of the note, asks for the same notes, and leaves in the
--- cells what they share then.
+-- The code that begins a voice, on cells that hold what notes share, does what the statements do as the note
+-- begins: it is refused for the same cause or leaves a voice of the note, schedules the same notes, and
+-- leaves in the cells what they share then.
 pub record Begins (s : Sheet) (body : Block) (plan : RegisterPlan) (kinds : Kinds) (before : ℕ → ℤ)
     (shared : Res → Wave) : Type
     0 where
@@ -48,17 +49,17 @@ pub record Begins (s : Sheet) (body : Block) (plan : RegisterPlan) (kinds : Kind
   pub voice : (begun_note s.piece body shared).world.cause ≡ None
       → IsVoiceOf s plan kinds (voice_of s (initialised s before)) (begun_note s.piece body shared)
 
--- A cycle of a voice of the note, over cells that hold what notes share, leaves a voice of the note after its next
--- cycle, and in the cells what notes share then.
+-- A cycle of a voice of the note, on cells that hold what notes share, leaves a voice of the note after its
+-- next cycle, and in the cells what notes share then.
 pub record GoesOn (s : Sheet) (body : Block) (plan : RegisterPlan) (kinds : Kinds) (v : Sounding) (t : Note Plain)
     (c : Cells)
     (shared : Res → Wave) : Type 0 where
   pub voice : IsVoiceOf s plan kinds (performed v c) (next_note s.piece body shared t)
   pub cells : Hold s.areas (cell (left_by v c)) (next_note s.piece body shared t).world.shared
 
--- Voices that play from a sheet perform notes of these statements, from their beginning through every cycle, whatever
--- other notes do in between to what they share. Where the values of a note stand and what its units are, plan and
--- kinds say.
+-- Voices that play from a sheet perform notes of these statements, from their beginning through every cycle,
+-- whatever other notes do to the shared resources in between. `plan` says in which registers the values of a
+-- note are, and `kinds` what its units are.
 pub record Perform (plan : RegisterPlan) (kinds : Kinds) (s : Sheet) (body : Block) : Type 0 where
   pub begins : (cells : ℕ → ℤ) (shared : Res → Wave) → Hold s.areas cells shared → Begins s body plan kinds cells shared
   pub goes_on : (v : Sounding) (t : Note Plain) (c : Cells) (shared : Res → Wave) → word_count s.areas ≤ length c

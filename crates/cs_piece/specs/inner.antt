@@ -1,3 +1,3 @@
--- What private clauses alone cite.
+-- Definitions that only private clauses cite.
 pub mod Data
 pub mod Marked

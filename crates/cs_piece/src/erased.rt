@@ -1,4 +1,4 @@
-// A typed orchestra that contracts alone see.
+// A typed orchestra that only contracts see.
 ghost use Rattle.std.specs.{Prelude.◌≡◌, Borrow.ftrue};
 ghost use Rattle.cs_typed.specs.contracts.tree.TypedOrc as row;
 ghost use Rattle.cs_typed.specs.declared.tree.TypedOrc.{TypedOrc};
@@ -6,8 +6,8 @@ ghost use Rattle.cs_typed.specs.declared.tree.TypedOrc.{TypedOrc};
 use cs_typed::TypedOrc;
 use std::marker::Model;
 
-/// A typed orchestra as it was when its codes were made. It takes no memory: no program reads it, and what a setup
-/// promises ties it to the codes.
+/// A typed orchestra as it was when its codes were made. It occupies no memory: no program reads it, and the
+/// promises of a setup tie it to the codes.
 #[derive(Drop)]
 pub(crate) struct ErasedOrchestra {
     pub(crate) ghost orchestra: { TypedOrc } by { row.the_row.coded },
@@ -23,7 +23,7 @@ unsafe impl Send for ErasedOrchestra {}
 unsafe impl Sync for ErasedOrchestra {}
 
 impl ErasedOrchestra {
-    /// The orchestra as it is now.
+    /// Stores the orchestra as it is now.
     pub(crate) fn of(_orchestra: &TypedOrc) -> ErasedOrchestra
         ensures { result.orchestra ≡ _orchestra.now }
     {

@@ -1,4 +1,4 @@
-// What holds of every voice and its note: calls that do nothing, whose contracts are the laws.
+// What holds for every voice and its note: calls that do nothing as they run, whose contracts are the laws.
 ghost use Rattle.std.specs.Prelude.{◌≡◌, ◌<◌, AllPairs, List};
 ghost use Rattle.cs_meaning.specs.{Core.Block, Core.core, Plain.Table};
 ghost use Rattle.cs_tempo.specs.declared.plot.Event.{Event};
@@ -10,21 +10,22 @@ ghost use Rattle.cs_ir.specs.declared.op.Code.{Code};
 ghost use Rattle.cs_code.specs.Names.{block_units};
 ghost use Rattle.cs_piece.specs.{Tables.tables_in, Sheets.IsSheetOf, Sheets.kinds_of, VoicesOfNotes.Perform};
 
-/// Voices that play codes which mean the statements of a note perform the note: as it begins, and in every control
-/// cycle.
+/// For the prover: voices that play codes which mean the statements of a note perform the note, as it begins
+/// and in every control cycle.
 pub fn voices_perform_their_notes()
     ensures { (s : Sheet) (body : Block) (means : Means body s.init s.perf) (playable : IsPlayable s)
         → s.piece.generators ≡ the_generators (pace_of s.piece.head) → Perform means.plan playable.kinds s body }
 {}
 
-/// An instrument's sheet can be played, and the voices that play from it perform the notes that the instrument means.
+/// For the prover: an instrument's sheet can be played, and the voices that play from it perform the notes
+/// that the instrument means.
 pub fn instruments_are_performed()
     ensures playable { (s : Sheet) (body : typed.Block) (init perf : Code) → IsSheetOf s body init perf → IsPlayable s }
     ensures performed { (s : Sheet) (body : typed.Block) (init perf : Code) (h : IsSheetOf s body init perf)
         → Perform h.code.means.plan (kinds_of (block_units (core s.piece.spaces body))) s (core s.piece.spaces body) }
 {}
 
-/// The tables of a plot stand by ascending number.
+/// For the prover: the tables of a plot are in ascending order of number.
 pub fn tables_are_in_order()
     ensures { (o : typed.Orchestra) (events : List Event)
         → AllPairs (λ (t u : Table). t.number < u.number) (tables_in o events) }

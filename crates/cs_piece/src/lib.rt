@@ -1,15 +1,17 @@
-//! What is performed: all that a piece needs, made from its typed orchestra and its plot before the first note.
+//! What is performed: everything that a piece needs, made from its typed orchestra and its plot before the
+//! first note.
 //!
-//! The one contract: `Setup::new` returns a setup of what it was given, or the limit on resources or cells that its
-//! layout passes. A setup stands for a composition (specs/Setups, `composition_of`), and gives whoever performs it
-//! the stage of the piece and each instrument with its footprint, from which its notes can begin and perform what the
-//! composition says (`IsStageOf`, `IsInstrumentOf` of specs/Ready). By the law `instruments_are_performed` voices
-//! that play from an instrument's sheet do, as they begin and in every control cycle, what the definitions say of its
-//! notes (specs/Sheets, specs/VoicesOfNotes). How tables are found, kept and told from one another, and which of them
-//! are cells, may be changed without anyone above noticing, but for the definition of `tables_in`.
+//! The one contract: `Setup::new` returns a setup of its arguments, or the limit on resources or cells that
+//! its layout exceeds. A setup represents a composition (specs/Setups, `composition_of`). It returns to its
+//! performer the stage of the piece and each instrument with its footprint, with which notes can begin and
+//! perform what the composition says (`IsStageOf`, `IsInstrumentOf` of specs/Ready). By the law
+//! `instruments_are_performed`, voices that play from an instrument's sheet do, as they begin and in every
+//! control cycle, what the definitions say about its notes (specs/Sheets, specs/VoicesOfNotes). How tables
+//! are found, stored and told apart, and which of them are cells, may be changed without anyone above
+//! noticing, except the definition of `tables_in`.
 //!
-//! Modules in reading order: `laws` (a voice performs its note), `written` (tables that codes may write), `tables`
-//! (those of a plot), `setup`, `stage` (what is handed out).
+//! Modules in reading order: `laws` (a voice performs its note), `written` (tables that codes may write),
+//! `tables` (the tables of a plot), `setup`, `stage` (what a performer receives).
 #![tactic(auto)]
 
 mod erased;

@@ -28,20 +28,20 @@ use cs_voice::PieceTable;
 use std::alloc::Global;
 use std::marker::Model;
 
-/// All that a piece needs to be performed. Contracts see its parts as plain data.
+/// Everything that a piece needs to be performed. Contracts see its parts as plain data.
 #[derive(Drop)]
 pub struct Setup {
     pub(crate) head: Head,
     pub(crate) spaces: Spaces,
-    /// The typed orchestra, for contracts alone.
+    /// The typed orchestra, only for contracts.
     pub(crate) orchestra: ErasedOrchestra,
     pub(crate) plot: Plot,
-    /// Each table of the plot once, by ascending number.
+    /// Each table of the plot once, in ascending order of number.
     pub(crate) tables: Vec<PieceTable>,
-    /// Where the cells of what notes share are.
+    /// The layout of the cells that notes share.
     pub(crate) layout: Layout,
     pub(crate) lowered: Lowered,
-    /// The zones of the layout, and the footprints of what is performed.
+    /// The zones of the layout, and the footprints of everything that is performed.
     pub(crate) zoned: Zoned,
 }
 
@@ -62,8 +62,9 @@ impl Model for Setup {
 }
 
 impl Setup {
-    /// The setup of an orchestra that breaks no rule, and of a plot that passes no limit. More resources than 4,096
-    /// pass the limit on them, and then more cells than 65,536 that on words, at line 0.
+    /// Makes the setup of an orchestra that breaks no rule, and of a plot that exceeds no limit. More than
+    /// 4,096 resources are a limit error of resources, and otherwise more than 65,536 cells are one of words,
+    /// both at line 0.
     pub fn new(alloc: Global, orchestra: TypedOrc, plot: Plot) -> Result<Setup, Or<LimitHit>>
         requires rated { IsWellRated (typed.orchestra orchestra) }
         requires distinct { IsDistinct eqb (all_numbers (typed.orchestra orchestra).instrs) }
@@ -80,7 +81,7 @@ impl Setup {
         let lowered = lower(alloc, &orchestra)?;
         let erased = ErasedOrchestra::of(&orchestra);
         let (head, spaces) = (orchestra.head, orchestra.spaces);
-        // The statements are let go before the tables are made.
+        // The statements are dropped before the tables are made.
         let globals = globals_of(orchestra);
         let events = plot.events.as_slice();
         let shared = shared_by(alloc, head.ksmps, &globals, spaces, &lowered, events)?;
@@ -96,28 +97,28 @@ impl Setup {
         })
     }
 
-    /// The header of the orchestra.
+    /// Returns the header of the orchestra.
     pub fn head(&self) -> &Head
         ensures { result.now ≡ self.now.orchestra.head }
     {
         &self.head
     }
 
-    /// The plot.
+    /// Returns the plot.
     pub fn plot(&self) -> &Plot
         ensures { result.now ≡ self.now.plot }
     {
         &self.plot
     }
 
-    /// Where the cells of what notes share are.
+    /// Returns the layout of the cells that notes share.
     pub fn layout(&self) -> &Layout
         ensures { result.now ≡ self.now.layout }
     {
         &self.layout
     }
 
-    /// Which of these cells are claimed together.
+    /// Returns the zones: which of these cells a note claims together.
     pub fn zones(&self) -> &Layout
         ensures { result.now ≡ self.now.zones }
     {
@@ -125,14 +126,15 @@ impl Setup {
     }
 }
 
-/// The variables and channels of an orchestra, whose statements are let go.
+// Returns the variables and channels of an orchestra, whose statements are dropped.
 fn globals_of(orchestra: TypedOrc) -> Globals
     ensures { result ≡ orchestra.globals }
 {
     orchestra.globals
 }
 
-/// What the notes of a piece share: its tables, where the cells are, and what the codes may touch of them.
+// What the notes of a piece share: its tables, the layout of its cells, and which of them the codes may
+// touch.
 #[derive(Drop)]
 struct Shared {
     tables: Vec<PieceTable>,
@@ -140,7 +142,7 @@ struct Shared {
     zoned: Zoned,
 }
 
-/// What notes of these codes and events share, beside variables, channels and zak spaces.
+// Returns what notes of these codes and events share, in addition to variables, channels and zak spaces.
 fn shared_by(
     alloc: Global,
     ksmps: u32,
@@ -175,7 +177,8 @@ fn shared_by(
     })
 }
 
-/// The layout of a piece with `ksmps` frames a control cycle, these variables and channels, zak spaces and tables.
+// Returns the layout of a piece with `ksmps` frames in a control cycle, these variables and channels, zak
+// spaces and tables.
 fn layout_of(
     alloc: Global,
     ksmps: u32,
@@ -195,7 +198,7 @@ fn layout_of(
     layout(alloc, ksmps, globals, spaces, &live)
 }
 
-/// Those of the tables whose points are cells.
+// Returns the live tables: those whose points are stored in cells.
 fn live_of(alloc: Global, tables: &[PieceTable]) -> Result<Vec<LiveTable>, OutOfMemory>
     ensures { IfOk result (λ v. v.items ≡ live_in (map table_of tables.now)) }
 {

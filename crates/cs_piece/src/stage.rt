@@ -1,4 +1,4 @@
-// What a setup hands out to whoever performs it.
+// What a performer receives from a setup.
 ghost use Rattle.std.specs.Prelude.{◌≡◌, ◌<◌, ℕ, length, pos, slice_get, true, false, IfSome, IfNone, MatchOption};
 ghost use Rattle.std.specs.Prelude.{Some, None};
 ghost use Rattle.cs_cells.specs.Areas.{IsLaid, limit_passed};
@@ -18,7 +18,8 @@ use cs_ir::Instrument;
 use cs_name_laws::notes_touch_what_there_is;
 use cs_voice::Stage;
 
-/// What notes are played from: an instrument, or what stands outside of instruments, and the footprint of its cycle.
+/// What notes are played from: an instrument, or the code outside of instruments, with the footprint of its
+/// cycle.
 #[derive(Clone, Copy)]
 pub struct Playable<'s> {
     pub instrument: &'s Instrument,
@@ -26,7 +27,7 @@ pub struct Playable<'s> {
 }
 
 impl Setup {
-    /// What is so of each setup. It does nothing.
+    /// For the prover: facts about each setup. It does nothing as it runs.
     pub fn facts(&self)
         ensures performable { IsPerformable self.now.orchestra.head self.now.plot }
         ensures sizes { AreOfOneSize self.now.plot.events }
@@ -39,7 +40,7 @@ impl Setup {
         let _ = &self.plot;
     }
 
-    /// The stage that the notes of the piece play in, with its tables.
+    /// Returns the stage that the notes of the piece play in, with its tables.
     pub fn stage(&self) -> Stage<'_>
         ensures stage { IsStageOf (composition_of self.now) result }
         ensures layout { result.layout.now ≡ self.now.layout }
@@ -55,7 +56,8 @@ impl Setup {
         }
     }
 
-    /// The instrument of a number, with its footprint. It takes as long as there are instruments, at most 200.
+    /// Returns the instrument with a number and its footprint, or None if there is no such instrument. The
+    /// cost is proportional to the number of instruments, at most 200.
     pub fn instrument(&self, number: i64) -> Option<Playable<'_>>
         ensures { MatchOption result ((composition_of self.now).instrument number ≡ None)
             (λ p. (body : Block) × ((composition_of self.now).instrument number ≡ Some body)
@@ -74,7 +76,7 @@ impl Setup {
         }
     }
 
-    /// What stands outside of instruments, with its footprint.
+    /// Returns the code outside of instruments, with its footprint.
     pub fn outside(&self) -> Playable<'_>
         ensures { (stage : Stage) → IsStageOf (composition_of self.now) stage → stage.layout.now ≡ self.now.layout
             → stage.zones.now ≡ self.now.zones
@@ -88,7 +90,7 @@ impl Setup {
     }
 }
 
-/// The place of the instrument of a number.
+// Returns the index of the instrument with a number, or None if there is no such instrument.
 fn place_of(instruments: &[Instrument], number: i64) -> Option<usize>
     ensures some { IfSome result (λ place. (place < length instruments.now) × (i : Numbered)
         × (slice_get instruments.now place ≡ Some i) × (pos i.number ≡ number)) }

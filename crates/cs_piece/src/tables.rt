@@ -1,5 +1,5 @@
-// The tables of a piece: each number once, in ascending order, as the score first gives it, and frozen where nothing
-// changes it.
+// The tables of a piece: each number once, in ascending order, as the score defines it first, and frozen if
+// nothing changes it.
 ghost use Rattle.std.specs.Prelude.{◌≡◌, ◌<◌, ◌++◌, ◌∷◌, [], ℕ, List, length, map, pos, IfOk, OnOk, Some, None};
 ghost use Rattle.std.specs.{Prelude.if◌then◌else◌, List.All};
 ghost use Rattle.cs_code.specs.Lowered.{AreInstrumentsOf};
@@ -21,10 +21,10 @@ use cs_ugen::FrozenTable;
 use cs_voice::PieceTable;
 use std::alloc::Global;
 
-/// One more than the greatest number of a table.
+/// One more than the highest number of a table.
 pub(crate) const NUMBERS_END: usize = GREATEST_TABLE as usize + 1;
 
-/// A table as an event of the score gives it.
+/// A table as an event of the score defines it.
 #[derive(Clone, Copy)]
 pub struct GivenTable<'p> {
     /// From 1 to 65,535.
@@ -35,7 +35,7 @@ pub struct GivenTable<'p> {
 }
 
 impl GivenTable<'_> {
-    /// The points of a table that has no fault.
+    /// Returns the points of a table that has no fault.
     pub fn points(&self, alloc: Global) -> Result<Points, OutOfMemory>
         requires { table_fault self.now.size self.now.gen_ self.now.args.now ≡ None }
         ensures points { IfOk result (λ p. p ≡ points_of self.now.size self.now.gen_ self.now.args.now) }
@@ -49,7 +49,7 @@ impl GivenTable<'_> {
     }
 }
 
-/// How often a number is given.
+// How often a table number is defined: never, once, or more often.
 #[derive(Clone, Copy)]
 enum Times {
     Never,
@@ -65,18 +65,18 @@ impl Times {
     }
 }
 
-/// What events give.
+// The tables that events define.
 #[derive(Drop)]
 struct Firsts<'p> {
-    /// Of each number the table that is given first.
+    // For each number that is defined, its first table.
     items: Vec<GivenTable<'p>>,
-    /// Of each number below 65,536.
+    // For each number below 65,536, how often it is defined.
     times: Vec<Times>,
 }
 
-/// The tables that events give, each number once, by ascending number, as it is given first; one has its points where
-/// it is given once alone and no code of an instrument may write it. It takes as long as there are events, ops of
-/// instruments and points.
+/// Returns the tables that events define, each number once, in ascending order, as it is defined first. A
+/// table has its points if its number is defined only once and no code of an instrument may write it. The
+/// cost is proportional to the number of events, of ops of instruments, and of points.
 pub(crate) fn tables_of(
     alloc: Global,
     lowered: &Lowered,
@@ -92,7 +92,7 @@ pub(crate) fn tables_of(
     Ok(by_number(tables))
 }
 
-/// Tables in any order, no two of one number, by ascending number.
+// Sorts tables by number; no two have the same number.
 fn by_number(mut tables: Vec<PieceTable>) -> Vec<PieceTable>
     requires { Differ (λ (t : Table). t.number) (map table_of tables.items) }
     ensures { map table_of result.items ≡ ascending (map table_of tables.items) }
@@ -101,7 +101,7 @@ fn by_number(mut tables: Vec<PieceTable>) -> Vec<PieceTable>
     tables
 }
 
-/// What events give.
+// Returns the tables that events define.
 fn firsts_of<'p>(alloc: Global, events: &'p [Event]) -> Result<Firsts<'p>, OutOfMemory>
     requires { All (λ e. IsActInRange e.act) events.now }
     ensures stand { IfOk result (StandFor (given_in events.now)) }
@@ -132,7 +132,7 @@ fn firsts_of<'p>(alloc: Global, events: &'p [Event]) -> Result<Firsts<'p>, OutOf
     Ok(given)
 }
 
-/// `count` numbers that aren't given.
+// Returns `count` numbers that aren't defined.
 fn never(alloc: Global, count: usize) -> Result<Vec<Times>, OutOfMemory>
     ensures long { IfOk result (λ v. length v.items ≡ count) }
     ensures none { IfOk result (λ v. (n : ℕ) → times_at v.items n ≡ often.Never) }
@@ -141,7 +141,7 @@ fn never(alloc: Global, count: usize) -> Result<Vec<Times>, OutOfMemory>
 }
 
 impl<'p> Firsts<'p> {
-    /// Adds a table that is given.
+    // Adds a table that an event defines.
     fn add(&mut self, table: GivenTable<'p>) -> Result<(), OutOfMemory>
         requires right { IsRight (given_of table) }
         requires long { length self.old.times.items ≡ numbers_end }
@@ -164,7 +164,7 @@ impl<'p> Firsts<'p> {
     }
 }
 
-/// The tables that are given, in their order.
+// Returns the tables that are defined, in their order.
 fn made_tables(
     alloc: Global,
     given: &[GivenTable<'_>],
@@ -185,7 +185,7 @@ fn made_tables(
     Ok(tables)
 }
 
-/// A table as it is given, with its points where it is frozen.
+// Returns a table as it is defined, with its points if it is frozen.
 fn table_for(alloc: Global, first: &GivenTable<'_>, frozen: bool) -> Result<PieceTable, OutOfMemory>
     requires { IsRight (given_of first.now) }
     ensures { IfOk result (λ t. table_of t ≡ table_given frozen (given_of first.now)) }

@@ -13,9 +13,9 @@ use std::marker::Model;
 /// Tables that are marked.
 #[derive(Drop)]
 pub struct Written {
-    /// All of them.
+    // Whether all of them are marked.
     any: bool,
-    /// Of each number below 65,536.
+    // For each number below 65,536, whether it is marked.
     numbers: Vec<bool>,
 }
 
@@ -30,7 +30,7 @@ impl Model for Written {
     ghost invariant = { λ w. length w.numbers.items ≡ 65536 };
 }
 
-/// The tables that the codes of instruments may write: as a note begins, or in a control cycle.
+/// Returns the tables that the codes of instruments may write, as a note begins or in a control cycle.
 pub fn written_by(alloc: Global, instruments: &[Instrument]) -> Result<Written, OutOfMemory>
     ensures { IfOk result (λ w. (n : ℕ) → n < numbers_end → is_marked w n ≡ list_any (codes_store n) instruments.now) }
 {
@@ -44,7 +44,7 @@ pub fn written_by(alloc: Global, instruments: &[Instrument]) -> Result<Written, 
     Ok(written)
 }
 
-/// So many numbers that aren't marked.
+// Returns `count` numbers that aren't marked.
 fn unmarked(alloc: Global, count: usize) -> Result<Vec<bool>, OutOfMemory>
     ensures long { IfOk result (λ v. length v.items ≡ count) }
     ensures none { IfOk result (λ v. (n : ℕ) → slice_index_or v.items n false ≡ false) }
@@ -53,7 +53,7 @@ fn unmarked(alloc: Global, count: usize) -> Result<Vec<bool>, OutOfMemory>
 }
 
 impl Written {
-    /// Whether a table is marked.
+    /// Returns whether a table is marked.
     pub fn is_marked(&self, number: usize) -> bool
         requires { number < numbers_end }
         ensures { result ≡ is_marked self.now number }
@@ -61,7 +61,7 @@ impl Written {
         self.any || self.numbers[number]
     }
 
-    /// Marks what the codes of an instrument may write.
+    // Marks the tables that the codes of an instrument may write.
     fn mark_codes(&mut self, instrument: &Instrument)
         ensures { (n : ℕ) → n < numbers_end → is_marked self.new n
             ≡ (is_marked self.old n || codes_store n instrument.now) }
@@ -70,14 +70,14 @@ impl Written {
         self.mark_ops(&instrument.perf().ops);
     }
 
-    /// Marks what ops may write.
+    // Marks the tables that ops may write.
     fn mark_ops(&mut self, ops: &Ops)
         ensures { (n : ℕ) → n < numbers_end → is_marked self.new n ≡ (is_marked self.old n || ops_store n ops.now) }
     {
         self.mark_touches(&ops.touches().written);
     }
 
-    /// Marks the tables among what is touched.
+    // Marks the tables among the resources that are touched.
     fn mark_touches(&mut self, touches: &[Touch])
         ensures { (n : ℕ) → n < numbers_end → is_marked self.new n
             ≡ (is_marked self.old n || list_any (touch_stores n) touches.now) }
@@ -87,7 +87,7 @@ impl Written {
         }
     }
 
-    /// Marks what is touched, as far as it is a table.
+    // Marks what is touched if it is a table.
     fn mark_touch(&mut self, touch: Touch)
         ensures { (n : ℕ) → n < numbers_end → is_marked self.new n ≡ (is_marked self.old n || touch_stores n touch) }
     {
@@ -98,7 +98,7 @@ impl Written {
         }
     }
 
-    /// Marks the tables within a reach.
+    // Marks the tables within a reach.
     fn mark(&mut self, reach: Reach)
         ensures { (n : ℕ) → n < numbers_end → is_marked self.new n ≡ (is_marked self.old n || reaches reach n) }
     {
@@ -112,7 +112,7 @@ impl Written {
     }
 }
 
-/// Marks the numbers from a first one to a last one.
+// Marks the numbers from `first` to `last`, both included.
 fn mark_span(numbers: &mut [bool], first: usize, last: usize)
     requires { length numbers.old ≡ numbers_end }
     ensures long { length numbers.new ≡ numbers_end }

@@ -1,4 +1,4 @@
--- Notes conflict by what they share exactly where their footprints clash.
+-- Notes conflict by what they share if and only if their footprints clash.
 use Rattle.std.proofs.lemmas.{Grind.common_steps, Bool.Decides.nat_tests}
 use Rattle.std.proofs.Common.{◌≡◌, ◌<◌, ℕ, zero, suc, length, arith, Bool, true, List, [], ◌∷◌, slice_get, Option, Some}
 use Rattle.std.proofs.Common.{None, refl, sym, subst, ap, ◌∙◌, ⊎_elim, inl, inr, if◌then◌else◌}
@@ -45,7 +45,7 @@ named_at N [] g h k = absurd (contains_none g k)
 named_at N (x ∷ gs) g h k =
     ⊎_elim (λ same. subst N same h.0) (λ later. named_at N gs g h.1 later) (contains_cases x g gs k)
 
--- AREAS at their places
+-- AREAS at their indexes
 
 place_of : (areas : List Area) (g : Res) → HasArea areas g → (place : ℕ) × HasPlace areas g place
 place_of [] g h = absurd (let no : ◌≡◌ {A = Option Area} None (Some h.0) = h.1 in cc)
@@ -72,7 +72,7 @@ some_there areas place x some at =
     subst (λ (a : Area). 0 < a.length) (get_or_from_slice_get areas place x x at)
     (some place x (slice_get_within areas place x at))
 
--- two areas that share a cell are of one resource
+-- two areas that share a cell belong to one resource
 one_area : (areas : List Area) (x y : Area) (a : ℕ) → IsLaid areas → Contains areas x → Contains areas y
     → in_area (Some x) a ≡ true → in_area (Some y) a ≡ true → x.res ≡ y.res
 one_area areas x y a laid hx hy ix iy =
@@ -85,7 +85,7 @@ one_area areas x y a laid hx hy ix iy =
 
 -- NOTES and their footprints
 
--- A footprint over zones is that of what a note touches: it covers the cells of its areas.
+-- A footprint in terms of zones belongs to what a note touches: it covers the cells of its areas.
 pub record IsFootFor (areas zones : List Area) (t : Touched) (foot : Footprint) : Type 0 where
   pub uses : (a : ℕ) → covers zones foot.uses a ≡ covers areas (places_holding areas t.uses) a
   pub writes : (a : ℕ) → covers zones foot.writes a ≡ covers areas (places_holding areas t.writes) a
@@ -94,7 +94,7 @@ pub record IsFootFor (areas zones : List Area) (t : Touched) (foot : Footprint) 
 
 module _ (areas zones : List Area) (over : AreOver areas zones) (p t : Touched) (f g : Footprint)
     (h : IsFootFor areas zones p f) (k : IsFootFor areas zones t g) where
-  -- a place of a footprint has a cell, and what has the cell is used, or written
+  -- a cell of a footprint belongs to a resource that is used, or written
   abbrev Holds : List Res → ℕ → Type 0
   Holds rs a = (area : Area) × Contains areas area × Contains rs area.res × (in_area (Some area) a ≡ true)
 
@@ -127,7 +127,7 @@ module _ (areas zones : List Area) (over : AreOver areas zones) (p t : Touched) 
       or_right (share p.writes t.uses) (share t.writes p.uses)
       (at_one t.writes p.uses a.0 (holds_written t g c.0 a.0 k x.1 a.1) (holds_used p f c.0 a.0 h x.0 a.1))) c.1
 
-  -- what is used, or written, of a resource is in the footprint
+  -- a resource that is used, or written, is in the footprint
   covers_res : (rs : List Res) (r : Res) (place : ℕ) (area : Area) → Contains rs r → slice_get areas place ≡ Some area
       → area.res ≡ r → covers areas (places_holding areas rs) area.first ≡ true
   covers_res rs r place area among at is =

@@ -25,7 +25,7 @@ nothing = record { uses = []; writes = [] }
 abbrev pub at : List Turn → ℕ → Turn
 at notes p = get_or notes p (nothing, 0)
 
--- ONE NOTE behind others
+-- ONE NOTE after others
 
 bound : (notes : List Turn) (t : Touched) (p : ℕ) → p < length notes → conflict (at notes p).0 t ≡ true
     → (at notes p).1 + 1 ≤ turn_behind notes t
@@ -33,12 +33,12 @@ bound [] t p l h = absurd (omega arith)
 bound (x ∷ notes) t zero l h = grind (arith, common_steps, max)
 bound (x ∷ notes) t (suc p) l h = grind (arith, common_steps, max, bound notes t p (omega arith) h)
 
--- the turn is 0 or one more than that of some note with which it conflicts
+-- the turn is 0 or one more than the turn of some note with which it conflicts
 abbrev IsReached : List Turn → Touched → ℕ → Type 0
 IsReached notes t n = (n ≡ 0)
     ⊎ ((p : ℕ) × (p < length notes) × (conflict (at notes p).0 t ≡ true) × (n ≡ (at notes p).1 + 1))
 
--- the greater of two turns is reached where either of them is and is the greater
+-- the higher of two turns is reached if it is reached by itself
 later_turn : (x : Turn) (notes : List Turn) (t : Touched) (m n : ℕ) → m ≤ n → IsReached notes t n
     → IsReached (x ∷ notes) t (max m n)
 later_turn x notes t m n low (inl none) = inl (omega (arith, low, none))
@@ -60,13 +60,13 @@ reached (x ∷ notes) t = by (conflict x.0 t) refl (cases_lt (x.1 + 1) (turn_beh
     by true e (inl low) more = later_turn x notes t (x.1 + 1) (turn_behind notes t) (omega (arith, low)) more
     by true e (inr high) more = first_turn x notes t (turn_behind notes t) e high
 
--- a number above the turns of all notes with which it conflicts that is reached is the turn
+-- a number above the turns of all notes with which a note conflicts is its turn if it is reached
 turn_is : (notes : List Turn) (t : Touched) (n : ℕ)
     → ((p : ℕ) → p < length notes → conflict (at notes p).0 t ≡ true → (at notes p).1 < n)
     → IsReached notes t n → n ≡ turn_behind notes t
 turn_is notes t n above is = grind (arith, common_steps, bound, reached)
 
--- ALL NOTES, each behind those before it
+-- ALL NOTES, each after those before it
 
 -- what is known of a note among all
 pub record IsTurnAt (notes : List Turn) (k : ℕ) : Type 0 where
@@ -74,7 +74,7 @@ pub record IsTurnAt (notes : List Turn) (k : ℕ) : Type 0 where
   pub reached : ((at notes k).1 ≡ 0)
       ⊎ ((p : ℕ) × (p < k) × (conflict (at notes p).0 (at notes k).0 ≡ true) × ((at notes k).1 ≡ (at notes p).1 + 1))
 
--- the same of notes that are equal
+-- the same for equal notes
 moves : (a b x y : Turn) → a ≡ b → x ≡ y → (conflict a.0 x.0 ≡ true → a.1 < x.1) → conflict b.0 y.0 ≡ true → b.1 < y.1
 moves a b x y e f h = rw (← e, ← f) h
 
@@ -215,12 +215,12 @@ module _ (areas zones : List Area) (over : AreOver areas zones) (ts : List Touch
           ap (λ (xs : List Touched). length xs) notes in
           omega (arith, l, long, length-map (paired ts levels) (λ (x : Turn). x.0))
 
--- a footprint of statements is that of what they touch
+-- a footprint of statements belongs to what they touch
 pub foot_for : (areas zones : List Area) (body : Block) (f : Footprint) → IsFootOf areas zones body f
     → IsFootFor areas zones (touched (stock_of areas) body) f
 foot_for areas zones body f h = record { uses = h.uses; writes = h.writes; there = h.there; places = h.places }
 
--- so it is with the footprints of notes that play
+-- so do the footprints of notes that play
 feet_for : (areas zones : List Area) (stock : Stock) (notes : List Active) (feet : List Footprint)
     → stock_of areas ≡ stock → AllZip (λ (a : Active) (f : Footprint). IsFootOf areas zones a.body f) notes feet
     → AllZip (IsFootFor areas zones) (map (λ (a : Active). touched stock a.body) notes) feet

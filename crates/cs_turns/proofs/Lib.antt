@@ -1,4 +1,3 @@
 pub mod Clashes
-pub mod Contained
 pub mod Levels
 pub mod Stocks

@@ -23,7 +23,7 @@ laid : (first : ℕ) (ss : List SharedCells)
 laid first [] = refl
 laid first (s ∷ rest) = grind (arith, common_steps, laid (first + s.cells) rest)
 
--- resources of other kinds are none
+-- resources of other kinds have no table numbers
 others : (kind : ℕ → Res) → ((n : ℕ) → table_number (kind n) ≡ None) → (cells : ℕ) (ns : List ℕ)
     → tables_among (map (λ n. record { res = kind n; cells = cells }) ns) ≡ []
 others kind none cells [] = refl
@@ -33,7 +33,7 @@ tables : (ts : List LiveTable) → tables_among (of_tables ts) ≡ map (λ (t : 
 tables [] = refl
 tables (t ∷ ts) = ap (λ (ns : List ℕ). t.number ∷ ns) (tables ts)
 
--- a kind of others in front
+-- resources of another kind before the others
 front : (xs ys : List SharedCells) → tables_among xs ≡ [] → tables_among (xs ++ ys) ≡ tables_among ys
 front xs ys none = filter_map-append (λ (s : SharedCells). table_number s.res) xs ys
     ∙ ap (λ (ns : List ℕ). ns ++ tables_among ys) none

@@ -24,14 +24,14 @@ taking n = andthen (set 7 rate.Control (Local rate.Control 0) (var rate.Control 
 abbrev no_places : Spaces
 no_places = record { control = 0; audio = 0 }
 
--- three instruments: the first gives what the second takes, and the third takes another variable
+-- three instruments: the first sets what the second reads, and the third reads another variable
 abbrev three : ℤ → Option Block
 three z =
     if int_eq z (pos 1) then Some (core no_places giving)
     else (if int_eq z (pos 2) then Some (core no_places (taking 0)) else
     (if int_eq z (pos 3) then Some (core no_places (taking 1)) else None))
 
--- a note of each for two cycles
+-- one note of each, for two cycles
 abbrev pub giving_and_taking : Composition
 giving_and_taking = record {
   head = record { sr = 8; ksmps = 4; nchnls = 1; dbfs = pos 2147483648 };
@@ -49,11 +49,11 @@ writing_second = andthen
     (call 5 rate.Control [] op.Zkw (value (number rate.Init (whole 2)) ∷ value (number rate.Init (whole 1)) ∷ []))
     no_stmt
 
--- four zak places of control values and no table
+-- four control zak places and no table
 abbrev four_places : Stock
 four_places = record { spaces = record { control = 4; audio = 4 }; live = [] }
 
--- Notes that write zak place 0, and place 1, and that read place 0, and any.
+-- The turns of notes that write zak place 0, write place 1, read place 0, and read any place.
 abbrev pub turns_of_places : List ℕ
 turns_of_places =
     turns_of (map (λ statements. touched four_places (core four_places.spaces statements))

@@ -1,5 +1,5 @@
-// The lines that tell turns.
-ghost use Rattle.std.specs.Prelude.{◌≡◌, ◌++◌, codes, flat_map, decimal, IfOk, OnErr, OnOk};
+// The lines that report turns.
+ghost use Rattle.std.specs.Prelude.{◌≡◌, ◌++◌, codes, flat_map, decimal, nat_lt, IfOk, OnErr, OnOk};
 ghost use Rattle.cs_turns.specs.Turns.{line_of, turn_line};
 
 use cs_base::OutOfMemory;
@@ -7,11 +7,18 @@ use cs_graph::Graph;
 use itoa::Buffer;
 use std::alloc::Global;
 
-/// Cycles from this one on have no line.
+// Cycles from this one on have no line.
 const LINES_END: u32 = 1_000;
 
-/// Adds the line of a cycle whose notes have this graph, or nothing from cycle 1,000 on. Without memory nothing is
-/// added.
+/// Whether a cycle has a line: the first 1,000 cycles have one.
+pub fn has_line(cycle: u32) -> bool
+    ensures { result ≡ nat_lt cycle 1000 }
+{
+    cycle < LINES_END
+}
+
+/// Appends the line of a cycle whose notes have this graph, or nothing from cycle 1,000 on. If memory runs
+/// out nothing is appended.
 pub fn add_turns(
     alloc: Global,
     turns: &mut Vec<u8>,
@@ -21,7 +28,7 @@ pub fn add_turns(
     ensures added { OnOk result (turns.new.items ≡ turns.old.items ++ line_of cycle graph.now.levels) }
     ensures failed { OnErr result (turns.new.items ≡ turns.old.items) }
 {
-    if cycle >= LINES_END {
+    if !has_line(cycle) {
         return Ok(());
     }
     let line = turn_line(alloc, cycle, graph)?;
@@ -29,7 +36,7 @@ pub fn add_turns(
     Ok(())
 }
 
-// The line of a cycle.
+// Returns the line of a cycle.
 fn turn_line(alloc: Global, cycle: u32, graph: &Graph) -> Result<Vec<u8>, OutOfMemory>
     ensures { IfOk result (λ line. line.items ≡ turn_line cycle graph.now.levels) }
 {
@@ -41,7 +48,7 @@ fn turn_line(alloc: Global, cycle: u32, graph: &Graph) -> Result<Vec<u8>, OutOfM
     Ok(line)
 }
 
-// Adds each level after one blank.
+// Appends each level after a blank.
 fn add_levels(line: &mut Vec<u8>, graph: &Graph) -> Result<(), OutOfMemory>
     ensures { OnOk result (line.new.items ≡ line.old.items ++ flat_map
         (λ turn. codes " " ++ decimal turn) graph.now.levels) }

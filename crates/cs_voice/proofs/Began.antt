@@ -1,4 +1,4 @@
--- What the code that begins a note leaves: the voice, or the cause.
+-- The result of the code that begins a note: the voice, or the cause of a refusal.
 use Rattle.std.proofs.Common.{◌≡◌, ℕ, ℤ, pos, zero, suc, ◌-◌, ◌++◌, Bool, true, List, [], ◌∷◌, length, map}
 use Rattle.std.proofs.Common.{slice_index_or, Option, Some, None, refl, sym, ◌∙◌, ap, subst, arith}
 use Rattle.std.specs.Option.{option_map}
@@ -20,14 +20,14 @@ use Rattle.cs_voice.specs.Passing.{CanInitialise, CanPass, IsStateOf, Passes}
 use Rattle.cs_voice.specs.Starts.{IsLive, IsStarted, sheet_for, started_as}
 use Rattle.cs_voice.specs.declared.begin.StartRefusal.TheVariants as refusal
 
--- the tables that a voice keeps are those that it found, made
+-- the tables of a voice are those that it found, all marked as made
 pub tables_made : (tables : List PieceTable) (ms : List Bool) → length ms ≡ length tables
     → map made (tables_of tables ms) ≡ map table_of tables
 tables_made [] ms e = refl
 tables_made (t ∷ tables) [] e = absurd (omega arith)
 tables_made (t ∷ tables) (m ∷ ms) e = ap (λ ts. table_of t ∷ ts) (tables_made tables ms (omega arith))
 
--- the units of a voice are those of its state
+-- the units of a voice are its state's units
 pub units_as : (ps : List (Option PlayerData)) (u : ℕ)
     → slice_index_or (map (option_map playing) ps) u None ≡ option_map playing (slice_index_or ps u None)
 units_as [] u = refl
@@ -65,7 +65,7 @@ module _ {s : Sheet} {first now : State} {before after : ℕ → ℤ} {asked giv
   pub cause_left : (initialised s before).world.cause ≡ option_map cause_of refused
   cause_left = ap (λ m. m.world.cause) began
 
-  -- the voice of a state
+  -- the voice that a state represents
   sounds_so : (number age until : ℕ) (stage : Stage) (foot : Footprint) (code : Code) (fields : List ℤ)
       → sounding_on s (voice_in number age until stage foot code fields now)
       ≡ voice_of s (machine_of now after passes.next passes.more (option_map cause_of refused))
@@ -154,7 +154,7 @@ can_pass access finds note fields init state same fine can =
       counts = new.0 ∙ ap (λ (code : Code). code.counts) (sym same);
     }
 
--- what holds of the p-fields holds of those that are found
+-- what holds for the p-fields holds for those that are found
 pub as_found : (access : Access) (finds : Finds) (note : NewNote) (fields : List ℤ) (state : State)
     → CanInitialise access finds note fields state → CanInitialise access finds note finds.at.fields.now state
 as_found access finds note fields state can =

@@ -1,4 +1,4 @@
--- What voices give together, by places of a block and by frames and channels.
+-- The sums of voices, by indexes of a block and by frames and channels.
 use Rattle.std.proofs.Common.{◌≡◌, ℕ, zero, suc, ℤ, pos, ◌+◌, ◌*◌, ◌/◌, ◌%◌, ◌<◌, ◌+ℤ◌, List, [], ◌∷◌, length, get_or}
 use Rattle.std.proofs.Common.{nat_lt, refl, ap, sym, ◌∙◌, subst, arith, ltb-true, zero-add}
 use Rattle.std.proofs.Math.Nat.{div-lt_iff_lt-mul, mod-lt}
@@ -15,7 +15,7 @@ use Rattle.cs_voice.specs.{Mixing.gives, Mixing.mixed, Mixing.shape, Mixing.sum_
 use Rattle.cs_row.specs.Heard as row
 
 module _ (frames channels : ℕ) where
-  -- voices of so many frames and channels
+  -- the voice has these numbers of frames and channels
   abbrev pub Fits : VoiceData → Type 0
   Fits v = shape v ≡ (frames, channels)
 
@@ -45,14 +45,14 @@ module _ (frames channels : ℕ) where
   pub first_fits : (vs : List VoiceData) (v : VoiceData) → All Fits vs → 0 < length vs → v ≡ get_or vs 0 v → Fits v
   first_fits vs v all some is = subst Fits (sym is) (all 0 v some)
 
-  -- as the sum of a row is told
+  -- the sums as the sum of a row
   pub heard_as : (vs : List VoiceData) (k n len : ℕ) (block : List ℤ) → All Fits vs → k ≡ frames → n ≡ channels
       → len ≡ frames * channels → block ≡ mixed k n vs → block ≡ sums gives len vs
   heard_as vs k n len block all ek en long is =
       is ∙ ap (λ (f : ℕ). mixed f n vs) ek ∙ ap (λ (c : ℕ). mixed frames c vs) en
       ∙ sym (sums_are_mixed vs all) ∙ ap (λ (m : ℕ). sums gives m vs) (sym long)
 
-  -- a place of the block is that of a frame and a channel
+  -- an index of the block belongs to a frame and a channel
   small_at : (vs : List VoiceData) (m at : ℕ) → All Fits vs → at < frames * channels
       → ((j c : ℕ) → j < frames → c < channels → IsSumOf m (sum_at vs j c)) → IsSumOf m (row.sum_at gives vs at)
   small_at vs m at all low small =

@@ -1,4 +1,4 @@
--- The parts of a voice: what makes one, and what a cycle makes of it.
+-- The parts of a voice: how one is made, and how a cycle changes it.
 use Rattle.std.proofs.Common.{◌≡◌, Bool, true, false, List, [], ◌∷◌, if◌then◌else◌, ◌∙◌, ap}
 use Rattle.std.specs.List.{AllByRecursion}
 use Rattle.cs_base.specs.{declared.resource.Rate.Rate, declared.resource.Res.Res}
@@ -11,7 +11,7 @@ use Rattle.cs_voice_meaning.specs.Voices.{Sheet, IsUsed, IsWritten, OpsWritten, 
 use Rattle.cs_machine.specs.States.{CanDo, MayGet, MaySet}
 use Rattle.cs_ir.specs.declared.op.Act.TheVariants as act
 
--- ---- what a voice may touch lets each of its ops be done
+-- ---- if a bank allows what a voice may touch, each of the voice's ops can be done
 
 module _ (s : Sheet) (access : Access)
     (bank : Allows access (λ a. may_use s a ≡ true) (λ a. may_write s a ≡ true)) where
@@ -64,7 +64,7 @@ module _ (s : Sheet) (access : Access)
     can_all stock kinds ops h.1 w.1,
   )
 
--- what a voice uses has its area
+-- everything that a voice uses has its area
 module _ (s : Sheet) where
   has_area : (g : Res) → IsUsed s g → HasArea s.areas g
   has_area g (area, is, used) = (area, is)

@@ -1,4 +1,4 @@
--- Places of frames that are filled channel by channel.
+-- Indexes of frames that are filled channel by channel.
 use Rattle.std.proofs.Common.{◌≡◌, ℕ, zero, suc, ℤ, pos, ◌+◌, ◌-◌, ◌*◌, ◌/◌, ◌<◌, ◌≤◌, ◌≢◌, ◌==◌, List, [], ◌∷◌, ◌++◌}
 use Rattle.std.proofs.Common.{length, get_or, map, take, drop, replicate, slice_set, refl, sym, ◌∙◌, ap, subst, arith}
 use Rattle.std.specs.List.{flat_map, range_with_len}
@@ -11,7 +11,7 @@ use Rattle.cs_base.proofs.Tests.{by_test}
 use Rattle.cs_machine.proofs.Frames.{apart}
 use Rattle.cs_voice.specs.inner.Places.{place}
 
--- A place of rows of n belongs to one row and one column.
+-- An index in rows of n belongs to one row and one column.
 pub one_frame : (n i j c d : ℕ) → c < n → d < n → i * n + c ≡ j * n + d → i ≡ j
 one_frame n i j c d low high e = sym (div-mul-add i n c low) ∙ (ap (λ k. k / n) e ∙ div-mul-add j n d high)
 
@@ -21,14 +21,14 @@ one_channel n i j c d low high e =
     let f : i * n + c ≡ i * n + d = subst (λ k. i * n + c ≡ k * n + d) (sym i_is) e in
     omega (arith, f)
 
--- it lies within the rows
+-- the index is within the rows
 pub within : (n frames j c : ℕ) → j < frames → c < n → j * n + c < frames * n
 within n frames j c row column =
     let more : (j + 1) * n ≤ frames * n = mul-le-mul (omega arith) (omega arith) in
     let e : (j + 1) * n ≡ j * n + n = omega arith in
     omega (arith, more, e)
 
--- a place takes a number, and no other place does
+-- the element at an index is set to a number, and no other one changes
 pub placed_here : (n : ℕ) (out : List ℤ) (j c : ℕ) (z : ℤ) → j * n + c < length out
     → place n (slice_set out (j * n + c) z) j c ≡ z
 placed_here n out j c z low = get_or-set_same out (j * n + c) z (pos 0) low
@@ -43,7 +43,7 @@ other_frame n i j c low other e = other (one_frame n i j c c low low e)
 pub other_channel : (n i j c d : ℕ) → c < n → d < n → d ≢ c → i * n + d ≢ j * n + c
 other_channel n i j c d low high other e = other (one_channel n i j d c high low e)
 
--- Numbers that have a value at each place are the frames of these values.
+-- Numbers with a value for each index are the frames of these values.
 all_rows : (n : ℕ) (f : ℕ → ℕ → ℤ) (frames a : ℕ) (out : List ℤ) → length out ≡ frames * n
     → ((j c : ℕ) → j < frames → c < n → place n out j c ≡ f (a + j) c)
     → out ≡ flat_map (λ j. map (f j) (range_with_len 0 n)) (range_with_len a frames)
@@ -68,8 +68,8 @@ all_rows n f (suc frames) a out long each =
     ∙ ap (λ k. f k c) (let e : a + suc j ≡ a + 1 + j = omega arith in e)))) in
     sym (take-append-drop n out) ∙ (λ i. first i ++ rest i)
 
--- Sums are put frame by frame from a frame on: what the frames up to this one have, those before, and the other
--- channels.
+-- Sums are written frame by frame from a frame on: the values of the frames up to this one, of those before,
+-- and of the other channels.
 module _ (n c from : ℕ) (sums before out : List ℤ) (j : ℕ) (z : ℤ) (low : c < n)
     (inside : (from + j) * n + c < length out) where
   pub put_more : z ≡ get_or sums j (pos 0) → ((i : ℕ) → i < j → place n out (from + i) c ≡ get_or sums i (pos 0))
@@ -100,12 +100,12 @@ pub from_frame : (P : ℕ → Type 0) (from count : ℕ) → ((j : ℕ) → j < 
 from_frame P from count h j low high =
     let e : from + (j - from) ≡ j = omega (arith, low) in subst P e (h (j - from) (omega (arith, low, high)))
 
--- a piece of a row has what the row has from there on
+-- a part of a row has the row's elements from an index on
 pub part_at : (row : List ℤ) (from count j : ℕ) → j < count
     → get_or (take count (drop from row)) j (pos 0) ≡ get_or row (from + j) (pos 0)
 part_at row from count j low = get_or-take count (drop from row) j (pos 0) low ∙ get_or-drop from row j (pos 0)
 
--- zeros are zeros
+-- the elements of a list of zeros are zeros
 pub zeros_have : (m k j : ℕ) → get_or (take k (replicate m (pos 0))) j (pos 0) ≡ pos 0
 zeros_have zero (suc k) j = refl
 zeros_have (suc m) (suc k) (suc j) = zeros_have m k j

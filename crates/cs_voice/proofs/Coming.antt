@@ -1,4 +1,5 @@
--- The steps of a routine, done where it is invoked: what lies there in a code, and how far the code has been done.
+-- The steps of a routine, done where it is invoked: the ops that a code has there, and how far the code has
+-- been done.
 use Rattle.std.proofs.Common.{◌≡◌, ◌∙◌, ◌+◌, ◌≤◌, ◌<◌, ◌++◌, ◌&&◌, ℕ, ℤ, zero, suc, Bool, true, false, List, [], ◌∷◌}
 use Rattle.std.proofs.Common.{length, map, nat_le, nat_lt, slice_get, Option, Some, None, if◌then◌else◌, arith, refl}
 use Rattle.std.proofs.Common.{sym, ap, subst, ltb-true, ◌⊎◌, inl, inr}
@@ -40,7 +41,7 @@ got_before [] ys n low = absurd (omega arith)
 got_before (x ∷ xs) ys zero low = refl
 got_before (x ∷ xs) ys (suc n) low = got_before xs ys n (omega (arith, low))
 
--- one of a list, after each was changed
+-- an element of a list after each was changed
 got_mapped : {A B : Type 0} (f : A → B) (xs : List A) (n : ℕ) (x : A) → slice_get xs n ≡ Some x
     → slice_get (map f xs) n ≡ Some (f x)
 got_mapped f xs n x is = slice_get-map f xs n ∙ ap (option_map f) is
@@ -49,10 +50,10 @@ mapped_both : {A B : Type 0} (f : A → B) (xs ys : List A) (k n : ℕ) → slic
     → slice_get (map f xs) (k + n) ≡ slice_get (map f ys) n
 mapped_both f xs ys k n same = slice_get-map f xs (k + n) ∙ ap (option_map f) same ∙ sym (slice_get-map f ys n)
 
--- ---- what lies in a code where steps are done
+-- ---- the ops of a code where steps are done
 
 module _ (rs : List (List Op)) where
-  -- the ops of a step among those of all
+  -- the ops of a step among the ops of all steps
   step_lies : (f : ℕ → ℕ) (p : ℕ) (ss : List Step) (at : ℕ) (s : Step) (n : ℕ) → slice_get ss at ≡ Some s
       → n < size rs s → slice_get (flat_from rs f p ss) (place_of rs at ss + n)
       ≡ slice_get (flat_step rs f (p + place_of rs at ss) s) n
@@ -81,7 +82,7 @@ module _ (rs : List (List Op)) where
 
   module _ (ss : List Step) (w : Begins) (whole : List Op) (p : ℕ) (lie : LieFrom whole p (moved_ops w p (flat rs ss)))
       (at : ℕ) where
-    -- what stands for a step ends within what stands for all
+    -- the ops of a step end within the ops of all steps
     room : (s : Step) → slice_get ss at ≡ Some s → place_of rs at ss + size rs s ≤ length (flat rs ss)
     room s is =
         let next = place_next rs at ss s is in
@@ -89,7 +90,7 @@ module _ (rs : List (List Op)) where
         let long = steps_long rs (λ to. place_of rs to ss) 0 ss in
         omega (arith, next, end, long)
 
-    -- an op, with its jump to where a step comes to stand
+    -- an op, with its jump turned into one to a step's first op
     pub op_lies : (op : Op) → slice_get ss at ≡ Some (step.Do op) → slice_get whole (p + place_of rs at ss)
         ≡ Some (moved_op w p (record op { act = placed (λ to. place_of rs to ss) op.act }))
     op_lies op is =
@@ -100,7 +101,7 @@ module _ (rs : List (List Op)) where
         (record op { act = placed (λ to. place_of rs to ss) op.act }) (ap (slice_get (flat rs ss)) none
         ∙ step_lies (λ to. place_of rs to ss) 0 ss at (step.Do op) 0 is (omega arith))
 
-    -- what a call invokes, in the window of both
+    -- the ops that a call invokes, in the windows of both
     pub call_lies : (c : Call) → slice_get ss at ≡ Some (step.Invoke c) → LieFrom whole (p + place_of rs at ss)
         (moved_ops (further w (window_of c)) (p + place_of rs at ss) (ops_at rs c.routine))
     call_lies c is n low =
@@ -119,7 +120,7 @@ module _ (rs : List (List Op)) where
         ap (λ k. slice_get (moved_ops (window_of c) k ops) n) none))
         ∙ ap (λ l. slice_get l n) (ops_twice w (window_of c) p q ops)
 
--- ---- where a step is behind another
+-- ---- steps that come after another
 
 place_back : (rs : List (List Op)) (ss : List Step) (at to : ℕ) → place_of rs at ss < place_of rs to ss → at < to
 place_back rs ss at to far = by_test (nat_lt at to) (λ yes. ltb-true at to yes)
@@ -132,7 +133,7 @@ place_on rs ss at to op is later =
     let next = place_next rs at ss (step.Do op) is in
     let far = place_later rs (suc at) to ss (omega (arith, later)) in omega (arith, next, far)
 
--- behind the last step
+-- the ops of all steps come before the place after the last step
 pub place_last : (rs : List (List Op)) (ss : List Step) (at : ℕ) → length ss ≤ at
     → place_of rs at ss ≡ length (flat rs ss)
 place_last rs ss at far =
@@ -140,14 +141,14 @@ place_last rs ss at far =
     let end = place_end rs at ss in
     let last = place_later rs (length ss) at ss far in omega (arith, long, end, last)
 
--- ---- an op where it is done
+-- ---- an op in its window
 
 abbrev pub is_jump : Act → Bool
 is_jump (act.Jump to) = true
 is_jump (act.Unless to) = true
 is_jump _ = false
 
--- of an op that is no jump the place makes no difference
+-- for an op that is no jump the index makes no difference
 placed_same : (w : Begins) (p : ℕ) (place : ℕ → ℕ) (a : Act) → is_jump a ≡ false
     → moved_act w p (placed place a) ≡ moved_act w 0 a
 placed_same w p place (act.Jump to) other = absurd (cc)
@@ -160,12 +161,12 @@ here_same w p place op other =
     let does = placed_same w p place op.act other in
     λ i. record { act = does i; into = moved_reg w op.into; from = map (moved_reg w) op.from }
 
--- an op is there as one of the same kind
+-- an op in a window is of the same kind
 pub moved_start : (w : Begins) (a : Act) → is_start (moved_act w 0 a) ≡ is_start a
 moved_start w act.Seek = refl
 moved_start w a = refl
 
--- ops by what they are: what only a code has that begins a note, and what is done over cells
+-- ops by their kind: those that only the code that begins a note has, and those that are done on cells
 pub is_started : (a : Act) → ((opcode : Opcode) × (u : ℕ) × (a ≡ act.Start opcode u)) ⊎ ((a ≡ act.Seek) ⊎ (a ≡ act.Ask))
     → is_start a ≡ true
 is_started a (inl (opcode, u, is)) = ap is_start is
@@ -202,7 +203,7 @@ module _ (a : Act) (not_jump : (to : ℕ) → a ≡ act.Jump to → ⊥) (not_un
 
 -- ---- how far a code has been done
 
--- Wherever some steps lie in something that had been done up to there, it has gone on up to one of them.
+-- Every code in which the steps occur, done up to them, has gone on up to one of the steps.
 pub record Comes (access : Access) (at : NoteSetting) (finding : Finding) (rs : List (List Op))
     (ss : List Step) (w : Begins) (old : State) (before : ℕ → ℤ) (asked : List Ask) (i : ℕ) (now : State)
     (cells : ℕ → ℤ) (given : List Ask) (refused : Option StartRefusal) : Type 0 where
@@ -210,7 +211,7 @@ pub record Comes (access : Access) (at : NoteSetting) (finding : Finding) (rs : 
       → IsDoneTo access at finding o p old before asked
       → HasGoneOn access at finding o (p + place_of rs i ss) now cells given refused
 
--- Over what the bank was, and over what it is: it lets the same be done.
+-- The bank before and the bank now allow the same.
 module _ {earlier later : Access} (alike : later ≡ earlier) (x y : Finding) (same : y ≡ x) where
   now_so : (P : Access → Finding → Type 0) → P earlier x → P later y
   now_so P h = subst (λ access. P access y) (sym alike) (subst (P earlier) (sym same) h)
@@ -218,8 +219,8 @@ module _ {earlier later : Access} (alike : later ≡ earlier) (x y : Finding) (s
   then_so : (P : Access → Finding → Type 0) → P later y → P earlier x
   then_so P h = subst (λ access. P access x) alike (subst (P later) same h)
 
--- Steps that can be done have been, up to one of them; over what the bank is and with what is found now the same can be
--- done as at first.
+-- Steps that can be done have been done up to one of them; with the bank as it is and with what is found now,
+-- the same can be done as at first.
 pub record IsAt {R : Type 0} (access : R → Access) (r q : R) (at : NoteSetting) (x y : Finding) (rs : List (List Op))
     (ss : List Step) (w : Begins) (old : State) (before : ℕ → ℤ) (asked : List Ask) (i : ℕ) (now : State)
     (cells : ℕ → ℤ) (given : List Ask) : Type 0 where
@@ -234,7 +235,7 @@ module _ {R : Type 0} {access : R → Access} {r q : R} {at : NoteSetting} {x y 
   same_access : access q ≡ access r
   same_access = ap access here.rest
 
-  -- it goes on
+  -- the code goes on
   pub goes_on : {v : R} {z : Finding} {j : ℕ} {new : State} {after : ℕ → ℤ} {asks : List Ask} → z ≡ y → v ≡ q
       → Comes (access r) at x rs ss w old before asked j new after asks None
       → IsAt access r v at x z rs ss w old before asked j new after asks
@@ -248,14 +249,14 @@ module _ {R : Type 0} {access : R → Access} {r q : R} {at : NoteSetting} {x y 
   -- ---- an op
 
   module _ {op : Op} (is : slice_get ss i ≡ Some (step.Do op)) where
-    -- the op as it stands in a code
+    -- the op as it occurs in a code
     abbrev there : ℕ → Op
     there p = moved_op w p (record op { act = placed (λ to. place_of rs to ss) op.act })
 
     done : IsDoneTo (access r) at x here.able.outset (here.able.place + place_of rs i ss) now cells given
     done = here.comes.up_to here.able.outset here.able.place here.able.lie here.able.done
 
-    -- is fine there
+    -- the op is valid there
     fine : (end : ℕ) × (is_fine now.regs.counts end (here.able.place + place_of rs i ss) (there here.able.place) ≡ true)
     fine = fine_now same_access done (op_lies rs ss w here.able.outset.ops here.able.place here.able.lie i op is)
         here.able.can
@@ -429,7 +430,7 @@ module _ {R : Type 0} {access : R → Access} {r q : R} {at : NoteSetting} {x y 
 
 -- ---- ends
 
--- nothing of the steps has been done
+-- none of the steps has been done
 pub at_first : {R : Type 0} {access : R → Access} {r : R} {at : NoteSetting} {x : Finding} {rs : List (List Op)}
     {ss : List Step} {w : Begins} {old : State} {before : ℕ → ℤ} {asked : List Ask}
     → CanDoOps (access r) at x w (flat rs ss) old before asked
@@ -454,7 +455,7 @@ module _ {access : Access} {at : NoteSetting} {x : Finding} {rs : List (List Op)
   comes_on {refused} none comes =
       subst (Comes access at x rs ss w old before asked i now cells given) (none_if refused none) comes
 
-  -- something was, wherever it was
+  -- something was refused, in every code in which the steps occur
   pub does_refused : {refused : Option StartRefusal} {r : StartRefusal} → refused ≡ Some r
       → Comes access at x rs ss w old before asked i now cells given refused
       → DoesOps access at x w (flat rs ss) old before asked now cells given (Some r)
@@ -472,7 +473,7 @@ module _ {access : Access} {at : NoteSetting} {x : Finding} {rs : List (List Op)
         (comes.up_to o p lie first);
   }
 
--- a routine that isn't there stands for nothing
+-- a routine that doesn't exist has no ops
 pub does_nothing : (access : Access) (at : NoteSetting) (x : Finding) (w : Begins) (ops : List Op)
     (old : State) (before : ℕ → ℤ) (asked : List Ask) → ops ≡ []
     → DoesOps access at x w ops old before asked old before asked None
@@ -482,7 +483,7 @@ does_nothing access at x w ops old before asked none = record {
       subst (λ k. IsDoneTo access at x o k old before asked) here first;
 }
 
--- the same ops in the same window can be done as well
+-- the same ops in the same window can be done too
 pub can_as : {access : Access} {at : NoteSetting} {x : Finding} {w v : Begins} {ops more : List Op}
     {now : State} {cells : ℕ → ℤ} {given : List Ask} → w ≡ v → ops ≡ more
     → CanDoOps access at x w ops now cells given → CanDoOps access at x v more now cells given
@@ -506,7 +507,7 @@ never_as {access} {at} {x} {w} {v} {ops} {more} {old} {before} {asked} same alik
     subst (λ u. AreOfNoCycle access at x u more old before asked) same
     (subst (λ os. AreOfNoCycle access at x w os old before asked) alike none)
 
--- ---- a code as a whole
+-- ---- a complete code
 
 lie_whole : (ops : List Op) → LieFrom ops 0 (moved_ops no_window 0 ops)
 lie_whole ops n low =

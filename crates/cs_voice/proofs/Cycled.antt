@@ -1,4 +1,4 @@
--- What a cycle makes of the parts of a voice.
+-- How a cycle changes the parts of a voice.
 use Rattle.std.proofs.Common.{◌≡◌, ℕ, ℤ, pos, ◌-◌, List, [], length, map, Option, None, refl, sym, ◌∙◌, ap, subst}
 use Rattle.std.proofs.Common.{arith}
 use Rattle.std.specs.{List.AllByRecursion, List.range_with_len, Option.option_map}
@@ -34,7 +34,7 @@ listed_units ps n long =
     (let e : length (map (unit_at ps) (range_with_len 0 n)) ≡ n =
     length-map-range_with_len (unit_at ps) 0 n in omega (arith, low, e)) ∙ sym (ap (λ f. f u) (units_are ps)))
 
--- what registers hold fills as many others alike
+-- the values of registers fill another file of the same shape in the same way
 filled_alike : (f g : RegisterFile) → f.counts ≡ g.counts → f.ksmps ≡ g.ksmps → filled g (values g) ≡ g
     → filled f (values g) ≡ g
 filled_alike f g counts frames whole =
@@ -55,7 +55,7 @@ module _ (number age until : ℕ) (stage : Stage) (foot : Footprint) (code : Cod
   abbrev Kept : State → Type 0
   Kept s = IsKept number age until stage foot code fields s
 
-  -- what the code of a voice is run in
+  -- the context in which the code of a voice runs
   abbrev pub context : (s : State) → Kept s → Context
   context s h = record {
     piece = piece_of (voice s);
@@ -78,7 +78,7 @@ module _ (number age until : ℕ) (stage : Stage) (foot : Footprint) (code : Cod
     players = h.state.players;
   }
 
-  -- the code of a voice can be run over a bank that has what the voice may touch
+  -- the code of a voice can be run on a bank that has everything that the voice may touch
   pub can_run : (access : Access) (s : State) (h : Kept s) (at : NoteSetting) (t : State)
       → Allows access (Uses voice_job (voice s)) (Writes voice_job (voice s))
       → at.layout.now ≡ stage.layout.now → at.head.now ≡ stage.head.now → at.spaces ≡ stage.spaces
@@ -128,7 +128,7 @@ module _ (number age until : ℕ) (stage : Stage) (foot : Footprint) (code : Cod
       };
     }
 
-    -- the machine after it
+    -- the machine after the cycle
     end : machine_of t (cell d) ran.next [] None ≡ cycle (sounding (voice s)) (cell c)
     end =
         ran.machine ∙ ap (λ l. run (voice_world l (piece_of (voice s))) 0 code.ops
@@ -138,7 +138,7 @@ module _ (number age until : ℕ) (stage : Stage) (foot : Footprint) (code : Cod
     done : voice_of (sheet_of (voice s)) (machine_of t (cell d) ran.next [] None) ≡ performed (sounding (voice s)) c
     done = ap (voice_of (sheet_of (voice s))) end ∙ sym (performed_on_all (sounding (voice s)) c h.voice.playable)
 
-    -- the voice is the one after it
+    -- the voice is the one after the cycle
     pub job : voice t ≡ after (voice s) c
     job = sym (
         ap (taking (voice s)) (sym done) ∙ (λ i. record (voice t) {
@@ -154,7 +154,7 @@ module _ (number age until : ℕ) (stage : Stage) (foot : Footprint) (code : Cod
             t.players.items
         units = listed_units t.players.items (length (voice s).units) (ran.state.units ∙ sym h.voice.units)
 
-    -- and the cells are those that it leaves
+    -- the cells are those that the cycle leaves
     pub cells : length d ≡ length c → d ≡ leaves (voice s) c
     cells long =
         ext_get_or (pos 0) d (leaves (voice s) c) (long ∙ sym (voice_frames.long (sounding (voice s)) c))
@@ -179,13 +179,14 @@ module _ (number age until : ℕ) (stage : Stage) (foot : Footprint) (code : Cod
       state = subst (λ l. IsStateIn l (piece_of (voice s)) h.voice.playable.kinds code.counts t) same ran.state;
     }
 
-  -- what a voice whose code was run over cells has become, and what it leaves in them
+  -- the voice after its code was run on cells, and the cells after it
   pub record HasCycled (s t : State) (c d : Cells) : Type 0 where
     pub job : voice t ≡ after (voice s) c
     pub cells : d ≡ leaves (voice s) c
     pub kept : Kept t
 
-  -- a body runs: its channels are cleared, its code is run in a setting, and its registers and channels are asked
+  -- a body runs: its channels are cleared, its code is run in a setting, and its registers and channels are
+  -- read
   module _ (s : State) (h : Kept s) (u : State) (silent : outs u.outs ≡ (λ n. silence))
       (long : length u.outs.rows ≡ length s.outs.rows)
       (frames : u.outs.ksmps ≡ s.outs.ksmps) (same : u ≡ record s { outs = u.outs })

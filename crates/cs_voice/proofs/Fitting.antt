@@ -1,4 +1,4 @@
--- What an op of a valid code has: its registers, as many operands as its act takes, and their rates.
+-- Facts about an op of a valid code: its registers, the number of its operands, and their rates.
 use Rattle.std.proofs.Common.{◌≡◌, ℕ, Bool, true, false, not, ◌&&◌, ◌||◌, List, [], ◌∷◌, refl, sym, ◌∙◌, ap, subst, ℤ}
 use Rattle.std.proofs.Common.{◌+◌, ◌<◌, ◌++◌, length, map, take, slice_get, ltb-true, Some}
 use Rattle.std.specs.List.{list_all}
@@ -20,7 +20,7 @@ use Rattle.cs_voice_meaning.specs.Voices.{has_channel}
 use Rattle.cs_voice.specs.{Ready.IsFit, Ready.is_here, Ready.is_plain, inner.Jumps.is_start}
 use Rattle.cs_ir.specs.declared.op.Act.TheVariants as act
 
--- ---- the parts of what is fine
+-- ---- the parts of validity
 
 pub record Parts (counts : Counts) (op : Op) : Type 0 where
   pub into : writes op.act ≡ true → has_register counts op.into ≡ true
@@ -76,9 +76,9 @@ third_there counts {from} {x} {y} {z} {rest} h e =
     let last = (and_parts (has_register counts y) (list_all (has_register counts) (z ∷ rest)) later).1 in
     (and_parts (has_register counts z) (list_all (has_register counts) rest) last).0
 
--- ---- how many operands
+-- ---- the number of operands
 
--- the acts that take none, one, two and three
+-- the acts with no, one, two and three operands
 abbrev pub is_bare : Act → Bool
 is_bare (act.Const n) = true
 is_bare (act.Field k) = true
@@ -123,9 +123,9 @@ not_true : (b : Bool) → not b ≡ true → b ≡ false
 not_true false h = refl
 not_true true h = absurd (cc)
 
--- ---- an op where it is done
+-- ---- an op in its window
 
--- it does there what it does, with its unit counted from where the window's begin
+-- an op in a window does its act, with its unit counted from the window's first
 pub acts_there : (o : OpAt) {a : Act} → o.op.now.act ≡ a → (there o).act ≡ moved_act o.window.now 0 a
 acts_there o is = ap (moved_act o.window.now 0) is
 
@@ -133,12 +133,12 @@ pub unit_there : (o : OpAt) (n : ℕ) {opcode : Opcode} {u : ℕ} {reach : Reach
     → n ≡ o.window.now.unit + u → (there o).act ≡ act.Unit opcode n reach
 unit_there o n {opcode} {u} {reach} is counted = acts_there o is ∙ ap (λ k. act.Unit opcode k reach) (sym counted)
 
--- an op whose act is known takes what the act takes
+-- an op whose act is known takes the act's operands
 pub takes_as : (op : Op) (a : Act) → op.act ≡ a → takes_from op.act (rate_at op.into) op.from ≡ true
     → takes_from a (rate_at op.into) op.from ≡ true
 takes_as op a e h = ap (λ b. takes_from b (rate_at op.into) op.from) (sym e) ∙ h
 
--- the registers that it names are there, so that their numbers have 32 bits
+-- the registers that an op names exist, so their numbers have 32 bits
 module _ {o : Op} {s : State} (fit : IsFit o s) where
   pub reads_there : list_all (has_register s.regs.counts) o.from ≡ true
   reads_there = (parts s.regs.counts fit.end fit.place o fit.fine).from
@@ -163,7 +163,7 @@ module _ {o : Op} {s : State} (fit : IsFit o s) where
   takes_in : {a : Act} → o.act ≡ a → takes_from a (rate_at o.into) o.from ≡ true
   takes_in {a} e = takes_as o a e (parts s.regs.counts fit.end fit.place o fit.fine).takes
 
-  -- it reads as many as its act takes
+  -- an op reads as many registers as its act takes
   pub bare_from : {a : Act} → o.act ≡ a → is_bare a ≡ true → o.from ≡ []
   bare_from {a} e b = no_operands a (rate_at o.into) o.from b (takes_in e)
 
@@ -176,7 +176,7 @@ module _ {o : Op} {s : State} (fit : IsFit o s) where
   pub reads_three : o.act ≡ act.Pick → length o.from ≡ 3
   reads_three e = three_operands (rate_at o.into) o.from (takes_in e)
 
-  -- what notes share and it reads or writes has a value
+  -- a shared resource that an op reads or writes has a value
   pub loads_value : {g : Res} → o.act ≡ act.Load g → has_value g ≡ true
   loads_value {g} e = (and_parts (has_value g) (within (rate_at o.into) (res_rate g))
       (ap (takes_from (act.Load g) (rate_at o.into)) (sym (bare_from e refl)) ∙ takes_in e)).0
@@ -185,7 +185,7 @@ module _ {o : Op} {s : State} (fit : IsFit o s) where
   saves_value {g} {x} e is = (and_parts (has_value g) (within (rate_at x) (res_rate g))
       (ap (takes_from (act.Save g) (rate_at o.into)) (sym is) ∙ takes_in e)).0
 
-  -- a sound goes out, and a condition is none
+  -- a register that is sent to a channel is an audio register, and a condition is none
   pub sends_sound : {channel : ℕ} {x : Reg} → o.act ≡ act.Out channel → o.from ≡ x ∷ [] → is_audio (rate_at x) ≡ true
   sends_sound {channel} e is = ap (takes_from (act.Out channel) (rate_at o.into)) (sym is) ∙ takes_in e
 
@@ -202,7 +202,7 @@ module _ {o : Op} {s : State} (fit : IsFit o s) where
       let two = and_parts (not (is_audio (rate_at n)) && within (rate_at n) r) (within (rate_at x) r) three.0 in
       not_true (is_audio (rate_at n)) (and_parts (not (is_audio (rate_at n))) (within (rate_at n) r) two.0).0
 
--- one register that it reads more
+-- one more register that an op reads
 pub one_read : (f : Reg → Wave) (xs : List Reg) (i : ℕ) (q : Reg) (before after : List ℤ) → slice_get xs i ≡ Some q
     → before ≡ first_values (map f (take i xs)) → after ≡ before ++ f q 0 ∷ []
     → after ≡ first_values (map f (take (i + 1) xs))
@@ -212,7 +212,7 @@ one_read f xs i q before after at was grown =
     ∙ sym (ap first_values (map_more f xs i q low
     ∙ ap (λ x. map f (take i xs) ++ f x ∷ []) (get_or_from_slice_get xs i q q at)))
 
--- ---- an op that does an act
+-- ---- an op with a known act
 
 pub does_at : {at : NoteSetting} {a b : Act} {into q : Reg} {xs ys : List Reg} {old new : State} → a ≡ b → into ≡ q
     → xs ≡ ys → DoesAt at b into ys old new → DoesAt at a q xs old new
@@ -225,7 +225,7 @@ pub does_anywhere : {at : NoteSetting} {a b : Act} {q : Reg} {xs ys : List Reg} 
 does_anywhere {at} {a} {b} {q} {xs} {ys} {old} {new} e f h =
     does_at e refl f (λ areas piece kinds counts cells setting state. h areas piece kinds counts cells state)
 
--- an act that is done here touches registers and output channels alone, unless it is one of these
+-- an act that is done here touches only registers and output channels, unless it is one of these
 pub is_else_plain : (w : Begins) (a : Act) → is_here (moved_act w 0 a) ≡ true → ((res : Res) → a ≡ act.Load res → ⊥)
     → ((res : Res) → a ≡ act.Save res → ⊥)
     → ((opcode : Opcode) (u : ℕ) (reach : Reach) → a ≡ act.Unit opcode u reach → ⊥)
@@ -238,13 +238,13 @@ is_else_plain w (act.Zak o reach) h load save unit zak store = absurd (zak o rea
 is_else_plain w (act.Store reach) h load save unit zak store = absurd (store reach refl)
 is_else_plain w _ h load save unit zak store = h
 
--- an act on zak places where it is done is one as it stands
+-- an act on zak places in a window is one outside of it too
 pub is_zak_act : (w : Begins) (a : Act) {o : Opcode} {r : Reach} → moved_act w 0 a ≡ act.Zak o r
     → ((opcode : Opcode) (reach : Reach) → a ≡ act.Zak opcode reach → ⊥) → ⊥
 is_zak_act w (act.Zak o r) e zak = zak o r refl
 is_zak_act w _ e zak = absurd (cc)
 
--- an act that only a code has that begins a note is one of these
+-- an act that only the code that begins a note has is one of these
 pub is_some_start : (w : Begins) (a : Act) → is_start (moved_act w 0 a) ≡ true
     → ((opcode : Opcode) (u : ℕ) → a ≡ act.Start opcode u → ⊥) → (a ≡ act.Seek → ⊥) → (a ≡ act.Ask → ⊥) → ⊥
 is_some_start w (act.Start o u) st start seek ask = start o u refl
@@ -252,7 +252,7 @@ is_some_start w act.Seek st start seek ask = seek refl
 is_some_start w act.Ask st start seek ask = ask refl
 is_some_start w _ st start seek ask = absurd (cc)
 
--- an act that touches registers and output channels alone is one of these
+-- an act that touches only registers and output channels is one of these
 pub is_one_of : (w : Begins) (a : Act) → is_plain (moved_act w 0 a) ≡ true → ((value : ℤ) → a ≡ act.Const value → ⊥)
     → ((field : ℕ) → a ≡ act.Field field → ⊥) → ((name : HeadName) → a ≡ act.Head name → ⊥) → (a ≡ act.Copy → ⊥)
     → (a ≡ act.Neg → ⊥) → ((function : Func) → a ≡ act.Call function → ⊥)

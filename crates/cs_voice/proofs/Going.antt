@@ -1,4 +1,4 @@
--- A code that is done from place to place, in a control cycle or as a note begins.
+-- A code that is done from op to op, in a control cycle or as a note begins.
 use Rattle.std.proofs.Common.{◌≡◌, ℕ, ℤ, ◌+◌, ◌<◌, ◌≤◌, ◌⊎◌, inl, inr, Bool, true, List, length, map, slice_get, Option}
 use Rattle.std.proofs.Common.{Some, None, refl, sym, ◌∙◌, ap, subst, arith}
 use Rattle.cs_ir.specs.{Cycles.is_of_cycle, Validity.is_fine, declared.ask.Ask.Ask, declared.op.Act.Act}
@@ -16,7 +16,7 @@ use Rattle.cs_ir.specs.declared.op.Act.TheVariants as act
 use Rattle.cs_voice.proofs.Passed as passed
 use Rattle.cs_voice.proofs.Steps as steps
 
--- an op of a code that can be done can be, as one of a sheet that begins or as one of a control cycle
+-- each op of a code that can be done can be done, as one of a sheet that begins or as one of a control cycle
 abbrev pub CanDoBy : Access → NoteSetting → Finding → Op → State → Type 0
 CanDoBy access at None op now = ⊥
 CanDoBy access at (Some f) op now = (s : Sheet) × (f.0.at ≡ at) × CanDoOp access f.0 f.1 op s now
@@ -25,7 +25,7 @@ abbrev pub CanDoHere : Access → NoteSetting → Finding → Op → State → T
 CanDoHere access at finding op now =
     ((c : Context) × (end : ℕ) × (place : ℕ) × CanStep access at c end place op now) ⊎ CanDoBy access at finding op now
 
--- a cycle starts nothing, looks for no table and asks for nothing
+-- a cycle starts nothing, looks for no table and schedules no note
 pub starts_not : (t : Act) → is_of_cycle t ≡ true → is_start t ≡ true → ⊥
 starts_not act.Seek h s = absurd cc
 starts_not t h s = absurd cc
@@ -50,7 +50,7 @@ module _ (access : Access) (at : NoteSetting) (op : Op) (now : State) where
 module _ {earlier later : Access} (alike : later ≡ earlier) {at : NoteSetting} {finding : Finding} {o : Outset}
     {place : ℕ} {now : State} {cells : ℕ → ℤ} {given : List Ask}
     (done : IsDoneTo earlier at finding o place now cells given) {op : Op} (is : slice_get o.ops place ≡ Some op) where
-  -- the op there can be done in a cycle, over what the bank was and over what it is
+  -- the op can be done in a cycle, with the bank before and with the bank now
   step_first : (c : Context) → CanRun earlier at c o.ops o.first → CanStep earlier at c (length o.ops) place op now
   step_first c can = steps.can_step (steps.can_go_on can (done.cycle c can).state) is
 
@@ -58,7 +58,7 @@ module _ {earlier later : Access} (alike : later ≡ earlier) {at : NoteSetting}
   step_now c can =
       subst (λ access. CanStep access at c (length o.ops) place op now) (sym alike) (step_first c can)
 
-  -- and as one of a sheet that begins
+  -- the op can be done as one of a sheet that begins
   op_now : (f : Finds) (ms : List Bool) (code : Code) (s : Sheet) → finding ≡ Some (f, ms) → f.at ≡ at
       → code.ops ≡ o.ops → CanPass earlier f ms code s o.first → CanDoOp later f ms op s now
   op_now f ms code s found same eq can =
@@ -95,7 +95,7 @@ module _ {earlier later : Access} (alike : later ≡ earlier) {at : NoteSetting}
         (ap (λ xs. slice_get xs place) (can.same ∙ eq) ∙ is) later on;
   }
 
-  -- an op that was done over cells
+  -- an op that was done on cells
   pub done_act : (new : State) (after : ℕ → ℤ) → is_here op.act ≡ true → DoesOp later at op now cells new after
       → IsDoneTo earlier at finding o (place + 1) new after given
   done_act new after here does = record {
@@ -106,11 +106,11 @@ module _ {earlier later : Access} (alike : later ≡ earlier) {at : NoteSetting}
         (subst (λ x. DoesOp later x op now cells new after) (sym same) does));
   }
 
-  -- one that only a code has that begins a note is in no control cycle
+  -- an op that only the code that begins a note has is in no control cycle
   pub never : is_start op.act ≡ true → IsOfNoCycle earlier at o
   never st c can = starts_not op.act (step_first c can).acts st
 
-  -- and what it does as a note begins, to its end or to what was refused
+  -- what such an op does as a note begins, to its end or to a refusal
   pub done_start : (new : State) (asks : List Ask) (refused : Option StartRefusal) → is_start op.act ≡ true
       → HasStarted finding op now given new asks refused
       → HasGoneOn earlier at finding o (place + 1) new cells asks refused
@@ -142,17 +142,17 @@ module _ {earlier later : Access} (alike : later ≡ earlier) {at : NoteSetting}
             (ap (λ xs. slice_get xs place) (can.same ∙ eq) ∙ is) (did f ms code s found same eq can);
       }
 
--- ---- the whole of a code
+-- ---- a complete code
 
 module _ (access : Access) (at : NoteSetting) (finding : Finding) (o : Outset) where
-  -- nothing has been done
+  -- nothing has been done yet
   pub done_none : IsDoneTo access at finding o 0 o.first o.before o.asked
   done_none = record {
     cycle = λ c can. steps.begun at.layout.now c o.ops o.first o.before can.state;
     passes = λ f ms code s found same eq can. passed.passed_none s o.first o.before o.asked can.begin.state;
   }
 
-  -- all has, or nothing more was after what was refused
+  -- everything has been done, or nothing more after a refusal
   pub all_cycle : (place : ℕ) (now : State) (cells : ℕ → ℤ) (given : List Ask) (refused : Option StartRefusal)
       → length o.ops ≤ place → HasGoneOn access at finding o place now cells given refused
       → (c : Context) → CanRun access at c o.ops o.first

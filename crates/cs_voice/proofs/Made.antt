@@ -1,4 +1,4 @@
--- A voice that plays from a sheet is one by itself.
+-- A voice that plays from some sheet also plays from its own.
 use Rattle.std.proofs.Common.{◌≡◌, ℕ, ℤ, pos, List, [], Option, Some, None, refl, sym, ◌∙◌, ap, subst}
 use Rattle.std.specs.Option.{option_map}
 use Rattle.std.proofs.lemmas.List.{length-map}
@@ -15,7 +15,7 @@ use Rattle.cs_voice.specs.{declared.stage.Stage.Stage, Memory.IsKept, Memory.Mak
 use Rattle.cs_voice.specs.VoiceData.{VoiceData, made, piece_of, sheet_of}
 use Rattle.cs_voice.proofs.{Sheets.all_made, Sheets.find_made, Voices.own_sheet, Voices.its_own}
 
--- a table that is found once all have been made was there before
+-- a table that is found after all have been made was there before
 made_before : (P : Table → Type 0) (o : Option Table) (t : Table) → option_map made o ≡ Some t
     → ((u : Table) → o ≡ Some u → P (made u)) → P t
 made_before P None t e h = absurd (cc)
@@ -69,9 +69,9 @@ module _ (areas : List Area) (g : Generators) (piece : Piece) where
     players = λ u p there. player_made (kinds u) p (h.players u p there);
   }
 
--- ---- the voice by itself
+-- ---- the voice with its own sheet
 
--- what can be played, with a state in its piece
+-- a sheet that can be played, with a state in its piece
 record Played (counts : Counts) (s : State) (sheet : Sheet) : Type 0 where
   playable : IsPlayable sheet
   state : IsStateIn sheet.areas sheet.piece playable.kinds counts s

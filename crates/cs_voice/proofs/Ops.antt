@@ -1,4 +1,4 @@
--- What is so of each op of the code that begins a note.
+-- Facts about each op of the code that begins a note.
 use Rattle.std.proofs.Common.{◌≡◌, ℕ, zero, suc, ◌+◌, ◌<◌, Bool, true, false, List, [], ◌∷◌, length, nat_lt}
 use Rattle.std.proofs.Common.{nat_le, slice_get, Some, if◌then◌else◌, sym, ◌∙◌, ap, subst, arith}
 use Rattle.std.specs.List.{AllByRecursion}
@@ -21,14 +21,14 @@ use Rattle.cs_machine.specs.States.{CanDo, MayTouch}
 use Rattle.cs_voice.specs.Passing.{IsOpOf}
 use Rattle.cs_ir.specs.declared.op.Act.TheVariants as act
 
--- one of all
+-- what holds for all ops holds for one
 pub all_at : (P : Op → Type 0) (ops : List Op) (n : ℕ) (op : Op) → AllByRecursion P ops → slice_get ops n ≡ Some op
     → P op
 all_at P [] n op h e = absurd cc
 all_at P (x ∷ ops) zero op h e = subst P (some_is x op e) h.0
 all_at P (x ∷ ops) (suc n) op h e = all_at P ops n op h.1 e
 
--- an op of the code at its place
+-- an op of the code at its index
 pub fine_here : (code : Code) (n : ℕ) (op : Op) → valid code ≡ true → slice_get code.ops n ≡ Some op
     → is_fine code.counts (length code.ops) n op ≡ true
 fine_here code n op fine at =
@@ -48,7 +48,7 @@ op_of s code counts n op playable same fine counted at = record {
       (ap (λ ops. slice_get ops n) same ∙ at);
 }
 
--- Over a bank of all cells each op may be done.
+-- With a bank of all cells each op may be done.
 module _ (allowed : ℕ → Type 0) (count : ℕ) (areas : List Area) (laid : IsLaid areas)
     (all : (a : ℕ) → a < word_count areas → allowed a) (there : (a : ℕ) → a < word_count areas → a < count) where
   inside : (area : Area) (a : ℕ) → in_area (Some area) a ≡ true → a < area.first + area.length

@@ -31,7 +31,7 @@ use Rattle.cs_voice.proofs.{Fitting.found, Fitting.parts, Ops.can_do, Ops.op_of}
 use Rattle.cs_voice.proofs.Running.{begins, ends, goes_on, jumped, refuses}
 use Rattle.cs_ir.specs.declared.op.Act.TheVariants as act
 
--- what is done here starts nothing, looks for no table and asks for nothing
+-- an act that is done here starts nothing, looks for no table and schedules no note
 steady_here : (t : Act) → is_here t ≡ true → is_of_cycle t ≡ true
 steady_here (act.Start o u) h = absurd cc
 steady_here act.Seek h = absurd cc
@@ -41,13 +41,13 @@ steady_here t h = refl
 steady_one : (op : Op) → is_of_cycle op.act ≡ true → are_of_cycle (op ∷ []) ≡ true
 steady_one op e = ap (λ b. b && true) e
 
--- an op of such a code as can be passed can be done
+-- an op of a code that can begin a note can be done
 pub record CanDoOp (access : Access) (finds : Finds) (ms : List Bool) (op : Op) (s : Sheet) (now : State) : Type 0 where
   pub begin : CanBegin access finds ms s now
   pub fine : IsOpOf s now.regs.counts op
 
--- Over a bank of all cells an op that isn't a jump, a start or an ask may be done, and what it does is what its sheet
--- says.
+-- With a bank of all cells an op that isn't a jump, a start or the scheduling of a note may be done, and it
+-- does what its sheet says.
 module _ {access : Access} {finds : Finds} {ms : List Bool} {s : Sheet} {op : Op} {old : State}
     (can : CanDoOp access finds ms op s old) where
   here : s.areas ≡ finds.at.layout.now
@@ -105,7 +105,7 @@ module _ {access : Access} {finds : Finds} {ms : List Bool} {s : Sheet} {op : Op
       own q = subst (λ areas. Does areas s.piece q.kinds old.regs.counts op.act op.into op.from old before new after)
           can.begin.found.setting.layout (does s.piece q.kinds q.stock (ready q))
 
--- a note is asked for
+-- a note is scheduled
 pub done_ask : (s : Sheet) (op : Op) (old : State) (cells : ℕ → ℤ) (asked : List Ask) → op.act ≡ act.Ask
     → IsStateOf s old.regs.counts old
     → IsDone s op old cells asked old cells (asked ++ ask_of (first_values (map (values old.regs) op.from)) ∷ []) None
@@ -118,7 +118,7 @@ done_ask s op old cells asked is state = record {
   state = state;
 }
 
--- a unit is started, or isn't
+-- a unit is started, or is refused
 pub done_start : (s : Sheet) (op : Op) (o : Opcode) (u : ℕ) (areas : List Area) (old new : State) (cells : ℕ → ℤ)
     (asked : List Ask) (refused : Option StartRefusal) → op.act ≡ act.Start o u → areas ≡ s.areas → IsPlayable s
     → ((p : IsPlayable s) → Starts areas s.piece p.kinds old.regs.counts o (rate_at op.into) u
@@ -188,7 +188,7 @@ module _ {s : Sheet} {first : State} {before : ℕ → ℤ} {asked : List Ask} {
     state = subst (λ c. IsStateOf s c new) u.counted d.state;
   }
 
-  -- the end, and a refusal
+  -- the end of the code, or a refusal
   pub passed_all : length s.init ≤ place → Passes s first before asked now cells asks None
   passed_all h = record {
     next = u.next;
@@ -209,7 +209,7 @@ module _ {s : Sheet} {first : State} {before : ℕ → ℤ} {asked : List Ask} {
     state = subst (λ c. IsStateOf s c new) u.counted d.state;
   }
 
-  -- the next op can be done, over a bank that lets the same be done
+  -- the next op can be done, with a bank that allows the same
   pub able_again : {earlier later : Access} {finds : Finds} {ms : List Bool} {code : Code} {op : Op} → later ≡ earlier
       → CanPass earlier finds ms code s first → slice_get code.ops place ≡ Some op → CanDoOp later finds ms op s now
   able_again {earlier} {later} {finds} {ms} {code} {op} alike can at = record {
@@ -222,7 +222,7 @@ module _ {s : Sheet} {first : State} {before : ℕ → ℤ} {asked : List Ask} {
     fine = op_of s code now.regs.counts place op can.begin.playable can.same can.valid (u.counted ∙ can.counts) at;
   }
 
--- what a start names and takes
+-- the unit and the arguments of a start
 starts_at : (counts : Counts) (end place u : ℕ) (o : Opcode) → finds counts end place (act.Start o u) ≡ true
     → u < counts.units
 starts_at counts end place u o f = grind (arith, nat_tests)
@@ -238,7 +238,7 @@ start_takes counts end place u o op fine is =
     started_shape o (rate_at op.into) op.from
     (subst (λ t. takes_from t (rate_at op.into) op.from ≡ true) is (parts counts end place op fine).takes)
 
--- a start, and an ask, as they are done
+-- a start, and the scheduling of a note, as they are done
 pub started_op : (finds : Finds) (ms : List Bool) (s : Sheet) (op : Op) (o : Opcode) (u v : ℕ) (r : Rate)
     (settled : List ℤ) (old new : State) (cells : ℕ → ℤ) (asked : List Ask) (refused : Option StartRefusal)
     → op.act ≡ act.Start o u → v ≡ u → r ≡ rate_at op.into → IsFound finds ms s → IsPlayable s → IsOpOf s

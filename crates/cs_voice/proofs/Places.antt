@@ -1,4 +1,4 @@
--- Zak places: what their opcodes do at the place that a value names.
+-- Zak places: what their opcodes do to the place that a value names.
 use Rattle.std.proofs.Common.{◌≡◌, ℕ, ℤ, pos, ◌≤◌, ◌&&◌, Bool, true, false, not, List, [], ◌∷◌, length, nat_lt, Option}
 use Rattle.std.proofs.Common.{Some, None, if◌then◌else◌, refl, sym, ◌∙◌, ap, subst, arith, ltb-true}
 use Rattle.std.proofs.lemmas.{Bool.and_parts, Bool.Decides.nat_tests, List.get_or_past, Option.none-some}
@@ -30,7 +30,7 @@ use Rattle.cs_ir.specs.declared.op.Act.TheVariants as act
 
 -- ---- the acts, by the shapes of their opcodes
 
--- what reads has a result, and what writes has none
+-- an opcode that reads has a result, and one that writes has none
 pub get_gives : (o : Opcode) (s : Space) → (row_of o).shape ≡ shape.ZakGet s → gives o ≡ true
 get_gives op.Zkr s h = refl
 get_gives op.Zar s h = refl
@@ -121,7 +121,7 @@ reached_value at s reach k g h = let p =
     place_value space.Control n = refl
     place_value space.Audio n = refl
 
--- it may be touched where all within reach may be
+-- a place may be touched if all places within reach may be
 pub area_touched : (allowed : ℕ → Type 0) (count : ℕ) (at : NoteSetting) (g : Res) (area : Area)
     → MayTouch allowed count at.layout.now g → area_of at.layout.now g ≡ Some area → CanTouch allowed count area
 area_touched allowed count at g area may there =
@@ -150,7 +150,7 @@ pub reached_sound : (at : NoteSetting) (reach : Reach) (k : Option ℕ) (g : Res
     → reached at space.Audio reach k ≡ Some g → res_rate g ≡ rate.Audio
 reached_sound at reach k g h = let p = place_of_number at space.Audio reach k g h in sym (ap res_rate p.1)
 
--- ---- what is mixed is nothing beyond the cycle
+-- ---- mixing changes no frames after the cycle
 
 pub mixed_held : (n : ℕ) (area : Area) (cells : ℕ → ℤ) (row : List ℤ) → area.length ≡ n → length row ≡ n
     → added (wave_in rate.Audio area cells) (row_wave row) ≡ held n rate.Audio
@@ -166,7 +166,7 @@ mixed_held n area cells row size long = λ i j. at j i
         ∙ ap (λ z. added (λ i. pos 0) (λ i. z) j) (get_or_past row j (pos 0) (omega (arith, far, long)))
         ∙ sym (ap (λ b. if b then added (wave_in rate.Audio area cells) (row_wave row) j else pos 0) no))
 
--- what the act of mixing makes of cells
+-- the cells after the act of mixing
 pub mixed_here : (areas : List Area) (g : Res) (area : Area) (x : Wave) (row : List ℤ) (n ksmps : ℕ)
     (before after : ℕ → ℤ)
     → area_of areas g ≡ Some area → res_rate g ≡ rate.Audio → area.length ≡ n → length row ≡ n → n ≡ ksmps
@@ -183,12 +183,12 @@ mixed_here areas g area x row n ksmps before after found sound size long same ow
 
 -- ---- the acts, at the place that a register names
 
--- a state of which nothing has changed
+-- a state in which nothing has changed
 same_state : (s : State) → KeepsMachine s s
 same_state s = record { regs = refl; rest = record { players = refl; outs = refl; delays = refl; ended = refl } }
 
 module _ (at : NoteSetting) (o : Opcode) (reach : Reach) (s : Space) (number : Reg) {old : State} where
-  -- a place within reach is read and written as any resource is
+  -- a place within reach is read and written like any resource
   pub loaded : {g : Res} {into : Reg} {new : State} {before after : ℕ → ℤ} → (row_of o).shape ≡ shape.ZakGet s
       → reached at s reach (index (values old.regs number 0)) ≡ Some g
       → DoesOver at (act.Load g) into [] old before new after
@@ -219,7 +219,7 @@ module _ (at : NoteSetting) (o : Opcode) (reach : Reach) (s : Space) (number : R
         state = done.state;
       }
 
-  -- where there is none, 0 is read, and nothing is written
+  -- if there is no place, 0 is read, and nothing is written
   pub none_loaded : {into : Reg} {new : State} {cells : ℕ → ℤ} → (row_of o).shape ≡ shape.ZakGet s
       → reached at s reach (index (values old.regs number 0)) ≡ None
       → KeepsRest old new → IsWritten old.regs into silence new.regs → length new.row.items ≡ old.regs.ksmps
@@ -241,7 +241,7 @@ module _ (at : NoteSetting) (o : Opcode) (reach : Reach) (s : Space) (number : R
       (not_reached at piece s reach (index (values old.regs number 0)) m.world
       (λ q. saved (voice_model areas piece) q (values old.regs x) m.world) setting.spaces none))
 
--- places are cleared from the number that one register names to that of another
+-- places are cleared from the number in one register to the number in another
 pub cleared_from : (at : NoteSetting) (o : Opcode) (reach : Reach) (s : Space) (first last : Reg) (f l : ℤ)
     {into : Reg} {old : State} {before after : ℕ → ℤ} → (row_of o).shape ≡ shape.ZakClear s
     → f ≡ values old.regs first 0 → l ≡ values old.regs last 0 → ((piece : Piece) → piece.spaces ≡ at.spaces → after

@@ -1,4 +1,4 @@
--- The steps of a unit in a cycle, at the rate of the register that its result goes into.
+-- The steps of a unit in a cycle, at the rate of its result's register.
 use Rattle.std.proofs.Common.{◌≡◌, ℕ, ℤ, true, false, List, [], ◌∷◌, Option, Some, None, if◌then◌else◌, sym, ◌∙◌, ap}
 use Rattle.cs_base.specs.{Rates.is_audio, declared.resource.Rate.Rate}
 use Rattle.cs_signal.specs.Operands.{argument}
@@ -9,7 +9,7 @@ use Rattle.cs_machine.specs.{Players.PlayerData, Players.SamePlayer, Players.ste
 use Rattle.cs_voice.specs.Units.{cycled, may_play, unit_after, unit_gives}
 use Rattle.cs_base.specs.declared.resource.Rate.TheVariants as rate
 
--- a step a frame
+-- one step for each frame
 pub audio_frames : (ksmps n : ℕ) (r : Rate) (ws : List Wave) (cells : ℕ → ℤ) (p : PlayerData) (k : UnitState)
     (row : List ℤ) → is_audio r ≡ true → n ≡ ksmps
     → (k, row) ≡ stepped p ws cells n → HasFrames (λ j. argument (cycled ksmps r ws cells p).1 (step_at r j)) row
@@ -47,7 +47,7 @@ plays_within ksmps r reach ws cells o p is within = (
       ∙ ap (λ b. if b then (λ j. argument (cycled ksmps r ws cells p).1 (step_at r j)) else silence) within),
 )
 
--- any other
+-- a unit whose table is out of reach
 pub rests_beyond : (ksmps : ℕ) (r : Rate) (reach : Reach) (ws : List Wave) (cells : ℕ → ℤ) (o : Option PlayerData)
     (p : PlayerData) → o ≡ Some p → may_play reach p ≡ false
     → (Some p ≡ unit_after ksmps r reach ws cells o) × (silence ≡ unit_gives ksmps r reach ws cells o)
@@ -64,6 +64,6 @@ pub rests_none : (ksmps : ℕ) (r : Rate) (reach : Reach) (ws : List Wave) (cell
 rests_none ksmps r reach ws cells o is =
     (sym (ap (unit_after ksmps r reach ws cells) is), sym (ap (unit_gives ksmps r reach ws cells) is))
 
--- all but the state of a unit is what it was
+-- everything except the state of a unit stays the same
 pub same_data : (p q : PlayerData) (k : UnitState) → SamePlayer p q → q.state ≡ k → q ≡ record p { state = k }
 same_data p q k same is = λ i. record { table = same.table i; state = is i; points = same.points i; area = same.area i }

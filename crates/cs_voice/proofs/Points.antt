@@ -1,4 +1,4 @@
--- What a unit reads of its table is what the definition reads.
+-- A unit reads those points of its table that the definition reads.
 use Rattle.std.proofs.Common.{◌≡◌, ℤ, Bool, true, false, not, ◌||◌, List, [], map, unsigned_abs, Option, Some, None}
 use Rattle.std.proofs.Common.{if◌then◌else◌, refl, sym, ◌∙◌, ap}
 use Rattle.std.specs.{List.range_with_len, Option.is_some}
@@ -20,7 +20,7 @@ use Rattle.cs_voice.specs.Units.{may_play}
 use Rattle.cs_base.specs.declared.resource.Rate.TheVariants as rate
 use Rattle.cs_base.specs.declared.resource.Res.TheVariants as res
 
--- an opcode that computes a result has one, and reads a table exactly where it takes one
+-- an opcode that computes a result has one, and reads a table if and only if it takes one
 pub record IsResult (o : Opcode) : Type 0 where
   pub some : gives o ≡ true
   pub table : reads_table o ≡ takes_table o
@@ -40,7 +40,7 @@ unit_result o h =
           refl o unit);
     }
 
--- a unit has a table exactly where its opcode takes one
+-- a unit has a table if and only if its opcode takes one
 no_table : (points : Option (List ℤ)) (area : Option Area) → (points ≡ None) × (area ≡ None)
     → (is_some points || is_some area) ≡ false
 no_table points area h = ap (λ o. is_some o || is_some area) h.0 ∙ ap is_some h.1
@@ -51,19 +51,19 @@ table_taken areas piece kind p is = by_test (takes_table kind.0)
     (λ takes. (is.table takes).has ∙ sym takes)
     (λ none. no_table p.points p.area (is.none none) ∙ sym none)
 
--- so what it may touch is what the definition lets it touch
+-- so a unit may touch what the definition lets it touch
 pub same_reach : (areas : List Area) (piece : Piece) (opcode : Opcode) (r : Rate) (reach : Reach) (p : PlayerData)
     → IsPlayerOf areas piece (opcode, r) p → may_touch opcode reach p.table ≡ may_play reach p
 same_reach areas piece opcode r reach p is =
     ap (λ b. not b || reaches reach (unsigned_abs p.table)) (sym (table_taken areas piece (opcode, r) p is))
 
--- the area of a live table has a cell a point
+-- the area of a live table has a cell for each point
 live_area : (areas : List Area) (t : Table) (p : PlayerData)
     → p.area ≡ (if is_some t.frozen then None else area_of areas (res.Table t.number))
     → t.frozen ≡ None → p.area ≡ area_of areas (res.Table t.number)
 live_area areas t p is live = is ∙ ap (λ o. if is_some o then None else area_of areas (res.Table t.number)) live
 
--- the points that are read of a table, by whether it is frozen and where it lies
+-- the points that are read of a table, by whether it is frozen and where it is
 points_of_table : (areas : List Area) (t : Table) (frozen : Option (List ℤ)) (area : Option Area) (x : VoiceState)
     → (is_some frozen || is_some area) ≡ true
     → (frozen ≡ None → (area ≡ area_of areas (res.Table t.number)) × ((a : Area) → area ≡ Some a → a.length ≡ t.size))
@@ -75,7 +75,7 @@ points_of_table areas t None (Some a) x has live =
     ap (λ o. curve_of (map (wave_of o rate.Audio x.shared) (range_with_len 0 t.size))) there
     ∙ ap (λ n. curve_of (map (wave_in rate.Audio a x.shared) (range_with_len 0 n))) (sym ((live refl).1 a refl))
 
--- a live table has its area, with a cell a point
+-- a live table has its area, with a cell for each point
 pub record IsLiveOn (areas : List Area) (t : Table) (a : Area) : Type 0 where
   pub area : area_of areas (res.Table t.number) ≡ Some a
   pub size : a.length ≡ t.size

@@ -1,4 +1,4 @@
--- A state whose unit has run is what the definition makes of it.
+-- A state whose unit has run is the one that the definition yields.
 use Rattle.std.proofs.Common.{◌≡◌, ℕ, ℤ, ◌<◌, ◌==◌, Bool, true, false, List, length, map, slice_index_or, slice_set}
 use Rattle.std.proofs.Common.{Option, Some, None, if◌then◌else◌, refl, sym, ◌∙◌, ap, subst}
 use Rattle.std.specs.Option.{option_map}
@@ -26,7 +26,7 @@ use Rattle.cs_ir.specs.declared.op.Act.TheVariants as act
 
 -- ---- units by number
 
--- what is put at a number where the same was changes nothing
+-- setting a number to what it already has changes nothing
 unit_again : (units : ℕ → Option Playing) (u : ℕ) (o : Option Playing) → units u ≡ o
     → (λ n. if n == u then o else units n) ≡ units
 unit_again units u o is = λ i n. at n i
@@ -36,7 +36,7 @@ unit_again units u o is = λ i n. at n i
         (λ yes. ap (λ b. if b then o else units n) yes ∙ sym is ∙ ap units (sym (eqb-true n u yes)))
         (λ no. ap (λ b. if b then o else units n) no)
 
--- the units of a list of which one was set
+-- the units of a list after one was set
 pub units_set : (players : List (Option PlayerData)) (u : ℕ) (q : Option PlayerData) → u < length players
     → unit_at (slice_set players u q) ≡ (λ n. if n == u then option_map playing q else unit_at players n)
 units_set players u q low = λ i n. at n i
@@ -45,9 +45,9 @@ units_set players u q low = λ i n. at n i
     at n = ap (option_map playing) (set_at_place players u q None low n)
         ∙ through (option_map playing) (n == u) q (slice_index_or players n None)
 
--- ---- what the definition of the unit's steps gives
+-- ---- the result of the definition of the unit's steps
 
--- the world with a unit at a number, and a value: what the definition answers, from what a note keeps
+-- the world with a unit at a number, and a value: the result of the definition, from what a note stores
 abbrev answers : ℕ → Option PlayerData → Wave → VoiceState → VoiceState × Wave
 answers u q w x = (record x { units = λ n. if n == u then option_map playing q else x.units n }, w)
 
@@ -57,7 +57,7 @@ module _ (areas : List Area) (stock : Stock) (piece : Piece) (opcode : Opcode) (
       → ◌≡◌ {A = VoiceState × Wave} (x, silence) (record x { units = λ n. if n == u then o else x.units n }, silence)
   stays o is = λ i. (record x { units = sym (unit_again x.units u o is) i }, silence)
 
-  -- the steps of a cycle, of these points
+  -- the steps of a cycle, with these points
   abbrev plays_on : List ℤ → PlayerData → VoiceState × Wave
   plays_on points p = has_run u (has_played r (playing p) (played piece.head.ksmps r (playing p) ws points)) x
 
@@ -71,7 +71,7 @@ module _ (areas : List Area) (stock : Stock) (piece : Piece) (opcode : Opcode) (
       ap (λ b. if b then plays_on (unit_points (voice_model areas piece) opcode (playing p) x) p else (x, silence))
       (same_reach areas piece opcode r reach p (is p refl)) ∙ by_reach (may_play reach p)
     where
-      -- the same steps, of the same points
+      -- the same steps, with the same points
       same_steps : played piece.head.ksmps r (playing p) ws
           (unit_points (voice_model areas piece) opcode (playing p) x) ≡ cycled piece.head.ksmps r ws x.shared p
       same_steps = ap (λ points. run unit_step (inputs_at ws points) p.state 0 (steps_of piece.head.ksmps r))
@@ -86,7 +86,8 @@ module _ (areas : List Area) (stock : Stock) (piece : Piece) (opcode : Opcode) (
 
 -- ---- the state whose unit has run
 
--- What running a unit leaves of a state: one register was written, and the unit has gone on; nothing else has changed.
+-- The change of a state by running a unit: one register was written, and the unit has gone on; nothing else
+-- has changed.
 pub record HasRun (old : State) (u : ℕ) (q : Option PlayerData) (into : Reg) (w : Wave) (new : State) : Type 0 where
   pub regs : IsWritten old.regs into w new.regs
   pub players : new.players.items ≡ slice_set old.players.items u q
@@ -115,7 +116,7 @@ run_machine ksmps old new u q into w ran frames low before after same next asks 
   };
 }
 
--- a unit that has gone on still is of its opcode, on its table
+-- a unit that has gone on still has its opcode and its table
 goes_on : (areas : List Area) (piece : Piece) (kind : Opcode × Rate) (p : PlayerData) (k : UnitState)
     → opcode_of k ≡ opcode_of p.state → IsPlayerOf areas piece kind p
     → IsPlayerOf areas piece kind (record p { state = k })
@@ -149,7 +150,7 @@ still_player areas piece kind ksmps r reach ws cells (Some p) is q at =
         (steps_of ksmps r) (cycled ksmps r ws cells p).1 refl) (is p refl)
     by_reach false = is p refl
 
--- what the players are of which one was set
+-- the players after one was set
 pub players_set : (areas : List Area) (piece : Piece) (kinds : Kinds) (players : List (Option PlayerData)) (u : ℕ)
     (o : Option PlayerData) → u < length players → ((p : PlayerData) → o ≡ Some p → IsPlayerOf areas piece (kinds u) p)
     → ((v : ℕ) (p : PlayerData) → slice_index_or players v None ≡ Some p → IsPlayerOf areas piece (kinds v) p)

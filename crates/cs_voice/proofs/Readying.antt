@@ -1,4 +1,4 @@
--- What an op that is ready has, by its act: all that the calls that do the act ask for.
+-- Facts about an op that is ready, by its act: everything that the calls which do the act require.
 use Rattle.std.proofs.Common.{◌≡◌, ℕ, ℤ, ◌<◌, ◌==◌, suc, Bool, true, List, [], ◌∷◌, length, slice_index_or, Some, None}
 use Rattle.std.proofs.Common.{if◌then◌else◌, refl, sym, ◌∙◌, ap, subst, eqb-true, ltb-true}
 use Rattle.std.proofs.lemmas.Bool.{and_parts}
@@ -63,7 +63,7 @@ pub is_a_zak : (o : Opcode) (reach : Reach) (r : Rate) (xs : List Reg) → takes
     → is_zak (row_of o).shape ≡ true
 is_a_zak o reach r xs h = (and_parts (is_zak (row_of o).shape) (runs_with (row_of o) r xs) h).0
 
--- there is no other shape of one
+-- an act on zak places has no other shape
 pub not_zak : (s : Shape) → is_zak s ≡ true → ((z : Space) → s ≡ shape.ZakGet z → ⊥)
     → ((z : Space) → s ≡ shape.ZakPut z → ⊥) → (s ≡ shape.ZakMix → ⊥) → ((z : Space) → s ≡ shape.ZakClear z → ⊥) → ⊥
 not_zak (shape.ZakGet z) h g p m c = g z refl
@@ -72,7 +72,7 @@ not_zak shape.ZakMix h g p m c = m refl
 not_zak (shape.ZakClear z) h g p m c = c z refl
 not_zak _ h g p m c = absurd (cc)
 
--- how many operands an act on zak places takes, by its opcode's shape: a read one, any other two
+-- the number of operands of an act on zak places, by its opcode's shape: one to read, any other two
 abbrev pub zak_count : Shape → ℕ
 zak_count (shape.ZakGet s) = 1
 zak_count _ = 2
@@ -88,7 +88,7 @@ zak_long o reach r xs n h e =
     ∙ eqb-true (length (moving_letters (row_of o))) (zak_count (row_of o).shape)
     (when_all (λ o. is_zak (row_of o).shape) counts_so refl o (is_a_zak o reach r xs h)) ∙ e
 
--- what is mixed into a zak place is a sound
+-- only an audio register is mixed into a zak place
 mixes : (o : Opcode) → (row_of o).shape ≡ shape.ZakMix → o ≡ op.Zawm
 mixes op.Zawm h = refl
 mixes _ h = absurd (cc)
@@ -108,7 +108,7 @@ pub store_long : (r : Rate) (xs : List Reg) → stores_with r xs ≡ true → le
 store_long r (x ∷ y ∷ n ∷ []) h = refl
 store_long r xs h = absurd (cc)
 
--- ---- what each op has
+-- ---- each op
 
 module _ {access : Access} {at : NoteSetting} {piece : Piece} {kinds : Kinds} {stock : Stock}
     {o : Op} {s : State} (r : IsReady access at piece kinds stock o s) where
@@ -136,7 +136,7 @@ module _ {access : Access} {at : NoteSetting} {piece : Piece} {kinds : Kinds} {s
         r.channel);
   }
 
-  -- the act by its name
+  -- an op's act, by its name
   pub uses_of : {a : Act} → o.act ≡ a → AreNamed (MayGet access at.layout.now) (act_uses stock a)
   uses_of {a} e = subst (λ b. AreNamed (MayGet access at.layout.now) (act_uses stock b)) e r.can.uses
 
@@ -159,14 +159,14 @@ module _ {access : Access} {at : NoteSetting} {piece : Piece} {kinds : Kinds} {s
   number_of {opcode} {u} {reach} e = subst (λ n. u < n) (sym r.state.units) (ltb-true u s.regs.counts.units
       (ap (finds s.regs.counts r.end r.place) (sym e) ∙ found s.regs.counts r.end r.place o r.fine))
 
-  -- the players of a unit
+  -- the player of a unit
   pub player_of : {opcode : Opcode} {u : ℕ} {reach : Reach} → o.act ≡ act.Unit opcode u reach → (p : PlayerData)
       → slice_index_or s.players.items u None ≡ Some p → IsPlayerOf at.layout.now piece (opcode, (rate_at o.into)) p
   player_of {opcode} {u} {reach} e p is = subst (λ k. IsPlayerOf at.layout.now piece k p)
       (subst (λ a. ActNamed stock kinds (HasArea at.layout.now) a (rate_at o.into)) e r.named).0 (r.state.players u
       p is)
 
-  -- the register that a unit's result goes into is there, and its table may be read
+  -- the register of a unit's result exists, and its table may be read
   pub unit_into : {opcode : Opcode} {u : ℕ} {reach : Reach} → o.act ≡ act.Unit opcode u reach
       → has_register s.regs.counts o.into ≡ true
   unit_into {opcode} {u} {reach} e =
@@ -183,7 +183,7 @@ module _ {access : Access} {at : NoteSetting} {piece : Piece} {kinds : Kinds} {s
   pub op_may_store : {reach : Reach} → o.act ≡ act.Store reach → MayStore access at.layout.now reach
   op_may_store {reach} e = may_store access at.layout.now stock piece reach r.placed (writes_of e)
 
-  -- zak places: those of the space that its shape reads, and those of the one that it writes
+  -- the zak places of the space that its shape reads, and of the space that it writes
   module _ {opcode : Opcode} {reach : Reach} (e : o.act ≡ act.Zak opcode reach) where
     pub may_read : (z : Space) {sh : Shape} → (row_of opcode).shape ≡ sh
         → ((stock : Stock) → shape_uses stock sh reach ≡ places_within stock z reach)
@@ -201,7 +201,7 @@ module _ {access : Access} {at : NoteSetting} {piece : Piece} {kinds : Kinds} {s
         (subst (AreNamed (MaySet access at.layout.now))
         (ap (λ q. if writes_places q then shape_uses stock q reach else []) is ∙ these stock) (writes_of e))
 
-    -- a register may name the places of sound that are mixed into
+    -- a register may name the audio places that are mixed into
     pub can_mix : {number : Reg} → (row_of opcode).shape ≡ shape.ZakMix → has_register s.regs.counts number ≡ true
         → CanMix access at reach number s
     can_mix is there = record {

@@ -1,4 +1,4 @@
--- A code that is run op by op, past those that jumps leave out.
+-- A code that is run op by op; ops that a jump skips do nothing.
 use Rattle.std.proofs.Common.{◌≡◌, ℕ, ℤ, zero, suc, ◌+◌, ◌-◌, ◌<◌, ◌≤◌, Bool, true, false, not, ◌&&◌, List, [], ◌∷◌}
 use Rattle.std.proofs.Common.{length, drop, map, nat_le, slice_get, Some, None, if◌then◌else◌, refl, sym, ◌∙◌, ap}
 use Rattle.std.proofs.{Common.arith, Math.Bool.and-false}
@@ -13,8 +13,8 @@ use Rattle.cs_voice_meaning.specs.VoiceWorld.{VoiceState, voice_world}
 use Rattle.cs_voice.specs.{inner.Coming.IsUpTo, inner.Jumps.GoesOn}
 use Rattle.cs_ir.specs.declared.op.Act.TheVariants as act
 
--- The machine after the op at a place is this state over these cells, and the next op that is done is at another place:
--- the one behind, or the one that the op jumps to.
+-- The machine after an op is this state on these cells, and the next op that is done is at another index: the
+-- next one, or the one to which the op jumps.
 pub record HasMoved (place result : ℕ) (asked : List (List ℤ)) (m : Machine VoiceState) (new : State) (after : ℕ → ℤ)
     : Type 0 where
   pub next : ℕ
@@ -22,7 +22,7 @@ pub record HasMoved (place result : ℕ) (asked : List (List ℤ)) (m : Machine 
   pub below : next ≤ result
   pub there : place + 1 < result → next ≡ result
 
--- the ops from the place of one of them on
+-- the ops from the index of one of them on
 from_op : (ops : List Op) (n : ℕ) (op : Op) → slice_get ops n ≡ Some op → drop n ops ≡ op ∷ drop (n + 1) ops
 from_op ops n op e =
     drop_more ops n op (slice_get_within ops n op e)
@@ -34,7 +34,7 @@ module _ {W : Type 0} (o : World W) where
       let e : nat_le m.next place ≡ false = grind (arith, nat_tests) in
       ap (λ b. if b && not (o.refused m.world) then acts o op.act op.into (map m.regs op.from) m else m) e
 
-  -- ops that a jump goes past do nothing
+  -- ops that a jump skips do nothing
   left_out : (k place : ℕ) (ops : List Op) (m : Machine W) → (0 < k → m.next ≡ place + k)
       → run o place ops m ≡ run o (place + k) (drop k ops) m
   left_out zero place ops m h = ap (λ p. run o p ops m) (let here : place ≡ place + 0 = omega arith in here)
@@ -55,7 +55,7 @@ module _ {W : Type 0} (o : World W) where
       left_out k place (drop place ops) m (λ some. there (omega (arith, some, sum)) ∙ sym sum)
       ∙ ap (λ l. run o (place + k) l m) (drop-drop k place ops) ∙ ap (λ p. run o p (drop p ops) m) sum
 
-  -- nor do those after a refusal
+  -- ops after a refusal do nothing
   stops : (ops : List Op) (place : ℕ) (m : Machine W) → o.refused m.world ≡ true → run o place ops m ≡ m
   stops [] place m e = refl
   stops (x ∷ ops) place m e =
@@ -63,7 +63,7 @@ module _ {W : Type 0} (o : World W) where
       ap (run o (place + 1) ops) (ap (λ b. if nat_le m.next place && not b then n else m) e
       ∙ ap (λ b. if b then n else m) (and-false (nat_le m.next place))) ∙ stops ops (place + 1) m e
 
-  -- an op that isn't passed over is done, where nothing was refused
+  -- an op that isn't skipped is done if nothing was refused
   done_here : (place : ℕ) (op : Op) (m : Machine W) → m.next ≤ place → o.refused m.world ≡ false
       → step o place op m ≡ acts o op.act op.into (map m.regs op.from) m
   done_here place op m near goes =
@@ -76,7 +76,7 @@ module _ {W : Type 0} (o : World W) where
 
 module _ {W : Type 0} {o : World W} {ops : List Op} {first : Machine W} {place : ℕ} {m : Machine W}
     (u : IsUpTo o ops first place m) where
-  -- the run from the place of an op on: the op, and the run from the next place on
+  -- the run from an op on: the op, and the run from the next index on
   op_done : {op : Op} {n : Machine W} → slice_get ops place ≡ Some op → o.refused m.world ≡ false
       → n ≡ acts o op.act op.into (map m.regs op.from) m
       → run o 0 ops first ≡ run o (place + 1) (drop (place + 1) ops) n
@@ -84,7 +84,7 @@ module _ {W : Type 0} {o : World W} {ops : List Op} {first : Machine W} {place :
       u.same ∙ ap (λ rest. run o place rest m) (from_op ops place op at)
       ∙ ap (run o (place + 1) (drop (place + 1) ops)) (done_here o place op m u.next goes ∙ sym e)
 
-  -- an op is done, and the run goes on behind it or where it leads
+  -- an op is done, and the run goes on after it or where it jumps to
   pub goes_on : {to : ℕ} {op : Op} {n : Machine W} → slice_get ops place ≡ Some op → o.refused m.world ≡ false
       → n ≡ acts o op.act op.into (map m.regs op.from) m → place < to → n.next ≤ to → (place + 1 < to → n.next ≡ to)
       → IsUpTo o ops first to n

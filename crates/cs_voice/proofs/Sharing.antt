@@ -1,4 +1,4 @@
--- What notes share: what a register takes of an area, and an area of a register.
+-- What notes share: reading an area into a register, and writing a register into an area.
 use Rattle.std.proofs.Common.{◌≡◌, ℕ, ℤ, pos, ◌+◌, ◌<◌, true, false, List, length, nat_lt, Some, if◌then◌else◌, refl}
 use Rattle.std.proofs.Common.{sym, ◌∙◌, ap, subst, arith}
 use Rattle.std.proofs.lemmas.{Bool.false≢true, Bool.Decides.nat_tests}
@@ -15,12 +15,12 @@ is_sound : (q : Rate) → is_audio q ≡ true → q ≡ rate.Audio
 is_sound rate.Audio h = refl
 is_sound r h = absurd (false≢true h)
 
--- a row has the frames of an area of sound
+-- a row has the frames of an audio area
 pub sound_frames : (r : Rate) (area : Area) (cells : ℕ → ℤ) (row : List ℤ) → is_audio r ≡ true
     → HasFrames (wave_in rate.Audio area cells) row → HasFrames (wave_in r area cells) row
 sound_frames r area cells row sound = subst (λ q. HasFrames (wave_in q area cells) row) (sym (is_sound r sound))
 
--- what is held at one rate or the other was read from the first cell
+-- a value that is held at either rate was read from the first cell
 pub read_held : (f g : RegisterFile) (into : Reg) (r : Rate) (area : Area) (cells : ℕ → ℤ) (z : ℤ)
     → (is_audio r ≡ true → is_audio (rate_at into) ≡ false)
     → 0 < area.length → z ≡ cells area.first → IsWritten f into (constant z) g
@@ -43,16 +43,16 @@ pub some_cell : (ksmps : ℕ) (r : Rate) (n : ℕ) → 0 < ksmps → n ≡ cell_
 some_cell ksmps rate.Audio n frames e = omega (arith, e, frames)
 some_cell ksmps r n frames e = omega (arith, e)
 
--- an area of sound has a cell a frame
+-- an audio area has a cell for each frame
 pub sound_cells : (ksmps : ℕ) (r : Rate) → is_audio r ≡ true → cell_count ksmps r ≡ ksmps
 sound_cells ksmps r sound = ap (cell_count ksmps) (is_sound r sound)
 
--- a register of sound is its row, for a cycle
+-- an audio register is its row, for a cycle
 pub row_is : (f : RegisterFile) (x : Reg) (row : List ℤ) → length row ≡ f.ksmps → row_wave row ≡ values f x
     → row_wave row ≡ held f.ksmps rate.Audio (values f x)
 row_is f x row long is = sym (held_row f.ksmps row long) ∙ ap (held f.ksmps rate.Audio) is
 
--- what the act of saving makes of cells
+-- the cells after the act of saving
 pub saved_here : (areas : List Area) (g : Res) (area : Area) (r : Rate) (w : Wave) (m n : ℕ) (before after : ℕ → ℤ)
     → area_of areas g ≡ Some area → m ≡ n → after ≡ with_wave (Some area) (held m r w) before
     → with_wave (area_of areas g) (held n r w) before ≡ after

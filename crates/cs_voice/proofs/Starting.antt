@@ -57,7 +57,7 @@ unit_machine old new u samples p has low cells next asks cause = λ i. record {
   };
 }
 
--- it still is a state of its code and piece, if the unit is one that the code runs
+-- it still is a state of its code and piece, if the code runs the unit
 unit_state : (areas : List Area) (piece : Piece) (kinds : Kinds) (counts : Counts) (old new : State) (u samples : ℕ)
     (p : PlayerData)
     → HasUnit old u p samples new → u < length old.players.items → IsStateIn areas piece kinds counts old
@@ -74,7 +74,7 @@ unit_state areas piece kinds counts old new u samples p has low state player = r
       (ap (λ ps. slice_index_or ps n None) (sym has.players) ∙ is);
 }
 
--- what takes a table is no delay
+-- an opcode that takes a table is no delay
 no_delay : (o : Opcode) → takes_table o ≡ true → is_delay o ≡ false
 no_delay op.Delay h = absurd cc
 no_delay _ h = refl
@@ -83,7 +83,7 @@ no_test : (o : Opcode) → is_delay o ≡ true → takes_table o ≡ false
 no_test op.Delay h = refl
 no_test _ h = absurd cc
 
--- the player of a unit is one of its opcode
+-- the player of a unit belongs to its opcode
 has_one : (o : Option (List ℤ)) (a : Option Area) → (o ≡ None → (x : Area) × (a ≡ Some x))
     → (is_some o || is_some (if is_some o then None else a)) ≡ true
 has_one (Some ps) a h = refl
@@ -119,7 +119,7 @@ alone_is areas piece o r pace settled unit takes = record {
   none = λ no. (refl, refl);
 }
 
--- what the start of a unit is, by its tests
+-- the start of a unit, by its tests
 no_refusal : (a b : Bool) → b ≡ true → (a && not b) ≡ false
 no_refusal true b e = ap not e
 no_refusal false b e = refl
@@ -136,7 +136,7 @@ within n h = grind (arith, nat_tests)
 beyond : (n : ℕ) → most_delay_samples < n → nat_le n most_delay_samples ≡ false
 beyond n h = grind (arith, nat_tests)
 
--- a unit as it plays, put among those of a state
+-- a playing unit, put into a state
 with_unit : (cells : ℕ → ℤ) (next : ℕ) (asks : List (List ℤ)) (s : State) (u samples : ℕ) (p : Playing)
     → Machine VoiceState
 with_unit cells next asks s u samples p = record {
@@ -155,7 +155,7 @@ with_unit cells next asks s u samples p = record {
 
 module _ (areas : List Area) (piece : Piece) (kinds : Kinds) (counts : Counts) (o : Opcode) (r : Rate) (u : ℕ)
     (settled : List ℤ) (old new : State) where
-  -- what is refused
+  -- a start that is refused
   refused_is : (refused : StartRefusal) → new ≡ old → IsStateIn areas piece kinds counts old
       → old.delays ≤ most_delay_samples → ((x : VoiceState) → x.delays ≡ old.delays
       → starts (voice_model areas piece) o r u settled x ≡ record x { cause = Some (cause_of refused) })
@@ -168,7 +168,7 @@ module _ (areas : List Area) (piece : Piece) (kinds : Kinds) (counts : Counts) (
     delays = subst (λ s. s.delays ≤ most_delay_samples) (sym same) small;
   }
 
-  -- what is started
+  -- a start that succeeds
   started_is : (samples : ℕ) (p : PlayerData) → HasUnit old u p samples new → u < length old.players.items
       → IsStateIn areas piece kinds counts old → IsPlayerOf areas piece (o, r) p → kinds u ≡ (o, r)
       → samples ≤ most_delay_samples → ((cells : ℕ → ℤ) (next : ℕ) (asks : List (List ℤ))
@@ -260,7 +260,7 @@ module _ (areas : List Area) (piece : Piece) (kinds : Kinds) (counts : Counts) (
         (beyond (longer x.delays) (let P : ℕ → Type 0 = λ n. most_delay_samples < n in subst P (sym so) long))
         ∙ ap (λ n. record x { cause = Some (delay_too_long n) }) so)
 
-    -- a unit without a table, with which the delays have so many samples
+    -- a unit without a table, with which the delays have `samples` samples
     module _ (samples : ℕ) (takes : takes_table o ≡ false) (is : samples ≡ samples_with o pace settled old.delays) where
       of_delay : is_delay o ≡ true → samples ≡ more pace
       unfolding more

@@ -12,7 +12,7 @@ use Rattle.cs_voice.specs.Cycles.{CanRun, Context, HasRun}
 use Rattle.cs_machine.proofs.Gathered.{each_read}
 use Rattle.cs_voice.proofs.{Ops.all_at, Running.HasMoved, Running.begins, Running.ends, Running.goes_on, Running.jumped}
 
--- An op at a place of a code of so many can be done in a control cycle over a bank: it may be done, is fine there, and
+-- An op at an index of a code can be done in a control cycle on a bank: it may be done, is valid there, and
 -- is one of a cycle.
 pub record CanStep (access : Access) (at : NoteSetting) (c : Context) (end place : ℕ) (op : Op)
     (s : State) : Type 0 where
@@ -21,7 +21,7 @@ pub record CanStep (access : Access) (at : NoteSetting) (c : Context) (end place
   pub fine : is_fine s.regs.counts end place op ≡ true
   pub acts : is_of_cycle op.act ≡ true
 
--- An op at a place was done, from wherever a jump may have come.
+-- An op at an index was done, whatever jump may have come before.
 pub record HasStepped (areas : List Area) (c : Context) (op : Op) (place result : ℕ) (old : State) (before : ℕ → ℤ)
     (new : State) (after : ℕ → ℤ) : Type 0 where
   pub moved : (next : ℕ) → next ≤ place → HasMoved place result []
@@ -29,7 +29,7 @@ pub record HasStepped (areas : List Area) (c : Context) (op : Op) (place result 
       (machine_of old before next [] None)) new after
   pub state : IsStateIn areas c.piece c.kinds c.counts new
 
--- ---- what a code that can be run needs of each op
+-- ---- what a code that can be run requires of each op
 
 module _ {access : Access} {at : NoteSetting} {c : Context} {ops : List Op} {s : State}
     (h : CanRun access at c ops s) where
@@ -59,7 +59,7 @@ module _ {access : Access} {at : NoteSetting} {c : Context} {ops : List Op} {s :
         acts = each_read (λ (o : Op). is_of_cycle o.act) ops n op h.acts e;
       }
 
-  -- and it can still be run from another state of its code
+  -- the code can still be run from another state of it
   pub can_go_on : {t : State} → IsStateIn at.layout.now c.piece c.kinds c.counts t → CanRun access at c ops t
   can_go_on st = record {
     setting = h.setting;
@@ -79,7 +79,7 @@ module _ {access : Access} {at : NoteSetting} {c : Context} {s : State} {end pla
   pub can_be_done : CanBeDone access at op s
   can_be_done = record { piece = c.piece; kinds = c.kinds; stock = c.stock; ready = h.ready }
 
-  -- and what it does there
+  -- what the op does there
   pub does_step : {before : ℕ → ℤ} {t : State} {after : ℕ → ℤ} → DoesOp access at op s before t after
       → HasStepped at.layout.now c op place (place + 1) s before t after
   does_step {before} {t} {after} d =

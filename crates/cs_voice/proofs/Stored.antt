@@ -1,4 +1,4 @@
--- Cells into which a live table was stored are what the definition makes of them.
+-- Cells after stores into a live table are as the definition says.
 use Rattle.std.proofs.Common.{◌≡◌, ℕ, ℤ, pos, Bool, true, false, not, List, [], ◌∷◌, Option, Some, None, if◌then◌else◌}
 use Rattle.std.proofs.Common.{refl, sym, ◌∙◌, ap, subst}
 use Rattle.std.specs.Option.{is_some}
@@ -18,8 +18,7 @@ use Rattle.cs_base.specs.declared.resource.Rate.TheVariants as rate
 use Rattle.cs_base.specs.declared.resource.Res.TheVariants as res
 use Rattle.cs_ir.specs.declared.op.Act.TheVariants as act
 
--- so many steps of values were stored into an area, at the places of indices, in a table of whatever number has its
--- size
+-- n values were stored into an area, at the indexes of another value, in a table of any number with its size
 abbrev pub Stores : Option Area → ℕ → Wave → Wave → (ℕ → ℤ) → (ℕ → ℤ) → Type 0
 Stores None n signal index before after = after ≡ before
 Stores (Some area) n signal index before after = (t : Table) → t.size ≡ area.length
@@ -32,7 +31,7 @@ stores_same area m n s v i w before after e f g h =
     subst (λ k. Stores (Some area) k v w before after) e
     (subst (λ x. Stores (Some area) m x w before after) f (subst (λ x. Stores (Some area) m s x before after) g h))
 
--- an area that is stored into may be
+-- an area that is stored into may be set
 pub stored_there : (access : Access) (areas : List Area) (reach : Reach) (k : Option ℕ) (area : Area)
     → stored_area areas reach k ≡ Some area → MayStore access areas reach → IsStorable access area
 stored_there access areas reach None area is may = absurd (cc)
@@ -45,13 +44,13 @@ stored_there access areas reach (Some n) area is may = by_reach (reaches reach n
 
 module _ (areas : List Area) (stock : Stock) (piece : Piece) (r : Rate) (ws : List Wave) (x : VoiceState)
     (placed : IsPlaced areas stock piece) where
-  -- what a table takes
+  -- a value stored in a table
   abbrev put_into : Table → VoiceState
   put_into t = with_value (voice_model areas piece) (res.Table t.number)
       (stored (places_of_indices t (operand 1 ws)) (operand 0 ws) (steps_of piece.head.ksmps r)
       (wave_of (area_of areas (res.Table t.number)) rate.Audio x.shared)) x
 
-  -- what has no area takes nothing
+  -- a table without an area stores nothing
   nowhere : (t : Table) → area_of areas (res.Table t.number) ≡ None → put_into t ≡ x
   nowhere t at = ap (λ o. record x {
     shared = with_wave o (stored (places_of_indices t (operand 1 ws)) (operand 0 ws) (steps_of piece.head.ksmps r)
@@ -102,7 +101,7 @@ module _ (areas : List Area) (stock : Stock) (piece : Piece) (r : Rate) (ws : Li
       by_reach true g = by_area n (area_of areas (res.Table n)) refl after g
       by_reach false g = λ i. record x { shared = g i }
 
--- the act of a store, by what it makes of cells
+-- the act of a store, by the cells after it
 pub store_done : (areas : List Area) (piece : Piece) (stock : Stock) (kinds : Kinds) (counts : Counts) (reach : Reach)
     (into signal place table : Reg)
     (s : State) (before after : ℕ → ℤ) → IsPlaced areas stock piece → IsStateIn areas piece kinds counts s

@@ -1,4 +1,4 @@
--- Sums of what voices give, one voice after another.
+-- Sums of voices, one voice after another.
 use Rattle.std.proofs.Common.{◌≡◌, ℕ, zero, suc, ℤ, pos, ◌+◌, ◌<◌, ◌+ℤ◌, List, [], ◌∷◌, ◌++◌, length, get_or, take}
 use Rattle.std.proofs.Common.{nat_lt, refl, sym, ◌∙◌, ap, subst, arith, ltb-true}
 use Rattle.std.proofs.Math.IntN.{+ℤ_assoc, +ℤ_idl, +ℤ_idr}
@@ -11,7 +11,7 @@ use Rattle.cs_wav.specs.Wav.{TakesMore, added}
 use Rattle.cs_voice.specs.{VoiceData.VoiceData, Mixing.sum_at}
 use Rattle.cs_row.specs.Heard.{IsSumOf}
 
--- one voice more
+-- one more voice
 pub sum_more : (voices : List VoiceData) (v : VoiceData) (frame channel : ℕ)
     → sum_at (voices ++ v ∷ []) frame channel ≡ sum_at voices frame channel +ℤ outs v.outs channel frame
 sum_more [] v frame channel = +ℤ_idr (outs v.outs channel frame) ∙ sym (+ℤ_idl (outs v.outs channel frame))
@@ -23,7 +23,7 @@ sum_more (x ∷ voices) v frame channel =
 pub one_more : (n : ℕ) (x z : ℤ) → IsSumOf n x → IsRaw z → IsSumOf (n + 1) (x +ℤ z)
 one_more n x z s r = record { low = omega (arith, ints, s.low, r.0); high = omega (arith, ints, s.high, r.1) }
 
--- The sum of fewer voices than there may be takes one more.
+-- A sum of fewer voices than the highest number of notes has room for one more.
 pub room_for_more : (n : ℕ) (xs : List ℤ) → n < most_notes → ((j : ℕ) → j < length xs → IsSumOf n (get_or xs j (pos 0)))
     → (j : ℕ) → TakesMore (get_or xs j (pos 0))
 room_for_more n xs few sums j = by_test (nat_lt j (length xs))
@@ -34,7 +34,7 @@ room_for_more n xs few sums j = by_test (nat_lt j (length xs))
     nothing_taken : TakesMore (pos 0)
     nothing_taken = (omega (arith, ints), omega (arith, ints))
 
--- what was added, place by place
+-- what was added, index by index
 pub added_at : (xs ys : List ℤ) (j : ℕ) → length ys ≡ length xs
     → get_or (added xs ys) j (pos 0) ≡ get_or xs j (pos 0) +ℤ get_or ys j (pos 0)
 added_at [] [] j long = sym (+ℤ_idl (pos 0))

@@ -6,7 +6,7 @@ use Rattle.cs_meaning.specs.Pieces.{find_table}
 use Rattle.cs_machine.proofs.Found.{if_false, if_true}
 use Rattle.cs_voice.specs.{declared.stage.PieceTable.PieceTable, Tables.table_at, Tables.tables_of}
 
--- the tables from a place on
+-- the tables from an index on
 from_place : (tables : List PieceTable) (made : List Bool) (n : ℕ) (t : PieceTable) (m : Bool) → n < length tables
     → n < length made → t ≡ get_or tables n t → m ≡ get_or made n false
     → tables_of (drop n tables) (drop n made) ≡ table_at t m ∷ tables_of (drop (n + 1) tables) (drop (n + 1) made)
@@ -18,7 +18,7 @@ from_place (x ∷ tables) (y ∷ made) (suc n) t m h k e f =
     from_place tables made n t m (omega arith) (omega arith) e f
     ∙ ap (λ j. table_at t m ∷ tables_of (drop j (x ∷ tables)) (drop j (y ∷ made))) more
 
--- the table at a place is the one, where those before it aren't; or it is behind it
+-- the table at an index is the one, if those before it aren't; or it is a later one
 pub found_here : (tables : List PieceTable) (made : List Bool) (number : ℤ) (n : ℕ) (t : PieceTable) → n < length tables
     → length made ≡ length tables
     → t ≡ get_or tables n t → (not (is_negative number) && t.number == unsigned_abs number) ≡ true

@@ -23,13 +23,13 @@ use Rattle.cs_base.specs.declared.resource.Res.TheVariants as res
 
 -- ---- tables
 
--- what is known of the area of a unit's live table
+-- what is known about the area of a unit's live table
 pub record IsTouched (access : Access) (reach : Reach) (p : PlayerData) (area : Area) : Type 0 where
   pub power : is_len (len_of area.length) ≡ true
   pub small : area.first + area.length ≤ 65536
   pub can : may_play reach p ≡ true → CanGet access area
 
--- a table that has an area isn't frozen
+-- a table with an area isn't frozen
 not_frozen : (frozen : Option (List ℤ)) (o area : Option Area) (a : Area) → area ≡ (if is_some frozen then None else o)
     → area ≡ Some a → frozen ≡ None
 not_frozen None o area a is at = refl
@@ -61,7 +61,7 @@ touched access areas stock piece reach p on placed named area at =
           ∙ in_reach (has_table p) (reaches reach (unsigned_abs p.table)) may on.has));
     }
 
--- a unit that has an area takes a table
+-- a unit with an area takes a table
 takes_with : (areas : List Area) (piece : Piece) (kind : Opcode × Rate) (p : PlayerData) → IsPlayerOf areas piece kind p
     → (area : Area) → p.area ≡ Some area → takes_table kind.0 ≡ true
 takes_with areas piece kind p is area at = sym (table_taken areas piece kind p is) ∙ has p.points p.area at

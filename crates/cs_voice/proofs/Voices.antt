@@ -11,9 +11,9 @@ use Rattle.cs_voice.specs.VoiceMeaning.{IsVoice, Performs, after, leaves}
 use Rattle.cs_voice.specs.Jobs.{after_voice, performed_fits, taken}
 use Rattle.cs_voice.proofs.Sheets.{run_same}
 
--- ---- any sheet that it plays from
+-- ---- any sheet that the voice plays from
 
--- a sheet whose parts are those of a voice, with its own code that begins it and its own tables
+-- a sheet with the parts of a voice, the first code of the sheet and its tables
 unfoldable pub own_sheet : Sheet → VoiceData → Sheet
 own_sheet s d = record {
   number = d.number;

@@ -1,4 +1,4 @@
--- Acts over the cells of a bank.
+-- Acts on the cells of a bank.
 use Rattle.std.specs.Prelude.{ℕ, ℤ, ◌≡◌, ◌<◌, true, List, Option, Some, None, if◌then◌else◌}
 use Rattle.cs_base.specs.{Rates.res_rate, declared.resource.Res.Res}
 use Rattle.cs_words.specs.{Catalogue.row_of, declared.catalogue.Shape.Shape, declared.catalogue.Space.Space}
@@ -17,32 +17,32 @@ use Rattle.cs_base.specs.declared.resource.Res.TheVariants as res
 use Rattle.cs_ir.specs.declared.op.Act.TheVariants as acts
 use Rattle.cs_words.specs.declared.catalogue.Space.TheVariants as space
 
--- An act makes of a state and cells what it makes in whatever piece the setting is of, whose areas are placed and whose
--- state it is.
+-- An act changes a state and cells as its definition says, in every piece to which the setting and the state
+-- belong and whose areas are laid out.
 abbrev pub DoesOver : NoteSetting → Act → Reg → List Reg → State → (ℕ → ℤ) → State → (ℕ → ℤ) → Type 0
 DoesOver at act into from old before new after =
     (areas : List Area) (piece : Piece) (stock : Stock) (kinds : Kinds) (counts : Counts)
     → IsSettingOf at areas piece → IsPlaced areas stock piece → IsStateIn areas piece kinds counts old
     → Does areas piece kinds counts act into from old before new after
 
--- so does the act on zak places of any opcode of a shape
+-- the same for the act on zak places, with any opcode of a shape
 abbrev pub DoesZak : NoteSetting → Shape → Reach → Reg → List Reg → State → (ℕ → ℤ) → State → (ℕ → ℤ) → Type 0
 DoesZak at s reach into from old before new after =
     (opcode : Opcode) → (row_of opcode).shape ≡ s → DoesOver at (acts.Zak opcode reach) into from old before new after
 
--- Areas of values have as many cells as a value has in a control cycle of so many frames.
+-- Areas of values have as many cells as a value has in a control cycle of `ksmps` frames.
 pub record AreSized (areas : List Area) (ksmps : ℕ) : Type 0 where
   pub frames : 0 < ksmps
   pub cells : (g : Res) (area : Area) → area_of areas g ≡ Some area → has_value g ≡ true
       → area.length ≡ cell_count ksmps (res_rate g)
 
--- what can be done to the cells of each zak place that a unit may reach
+-- the cells of each zak place that a unit may reach are allowed
 abbrev pub MayReach : (ℕ → Type 0) → ℕ → NoteSetting → Space → Reach → Type 0
 MayReach allowed count at s reach = (n : ℕ) → n < places_of at.spaces s → reaches reach n ≡ true
     → MayTouch allowed count at.layout.now (zak_place s n)
 
--- A register may name a zak place of sound that is mixed into: it is there, a row has room, areas have their cells, and
--- each place within reach may be read and written.
+-- A register may name an audio zak place to mix into: the register exists, the buffer is large enough for a
+-- row, areas have their cells, and each place within reach may be read and written.
 pub record CanMix (access : Access) (at : NoteSetting) (reach : Reach) (number : Reg) (s : State) : Type 0 where
   pub register : has_register s.regs.counts number ≡ true
   pub room : HasRoom s
@@ -50,7 +50,7 @@ pub record CanMix (access : Access) (at : NoteSetting) (reach : Reach) (number :
   pub read : MayReach access.can_get access.count at space.Audio reach
   pub write : MayReach access.can_set access.count at space.Audio reach
 
--- the area of the live table of a number, where it is within reach
+-- the area of the live table with a number, if it is within reach
 abbrev pub stored_area : List Area → Reach → Option ℕ → Option Area
 stored_area areas reach None = None
 stored_area areas reach (Some n) = if reaches reach n then area_of areas (res.Table n) else None
@@ -60,7 +60,7 @@ pub record IsStorable (access : Access) (area : Area) : Type 0 where
   pub power : is_len (len_of area.length) ≡ true
   pub write : CanSet access area
 
--- so may those of each live table within reach
+-- the cells of each live table within reach may be stored into
 abbrev pub MayStore : Access → List Area → Reach → Type 0
 MayStore access areas reach =
     (n : ℕ) (area : Area) → reaches reach n ≡ true → area_of areas (res.Table n) ≡ Some area → IsStorable access area

@@ -10,15 +10,15 @@ use Rattle.cs_machine.specs.{States.machine_of, declared.state.State.State, decl
 use Rattle.cs_voice_meaning.specs.Placing.{HasArea, IsPlaced}
 use Rattle.cs_voice_meaning.specs.{VoiceWorld.voice_world, Follows.Kinds, Follows.OpsNamed, Voices.have_channels}
 
--- What a code is run in: the piece, what it has beside its variables, which opcode each unit has, and how many
--- registers and units there are.
+-- The context in which a code runs: the piece, its zak spaces and live tables, the opcode of each unit, and
+-- the numbers of registers and units.
 pub record Context : Type 0 where
   pub piece : Piece
   pub stock : Stock
   pub kinds : Kinds
   pub counts : Counts
 
--- A code can be run in a control cycle over a bank: each of its ops can be done.
+-- A code can be run in a control cycle on a bank: each of its ops can be done.
 pub record CanRun (access : Access) (at : NoteSetting) (c : Context) (ops : List Op) (s : State) : Type 0 where
   pub setting : IsSettingOf at at.layout.now c.piece
   pub placed : IsPlaced at.layout.now c.stock c.piece
@@ -31,8 +31,8 @@ pub record CanRun (access : Access) (at : NoteSetting) (c : Context) (ops : List
   pub acts : are_of_cycle ops ≡ true
   pub can : AllByRecursion (λ (op : Op). CanDo access at.layout.now c.stock op.act) ops
 
--- A code was run: the state and the cells are those of the machine after it. Where its last jump went doesn't matter
--- any more.
+-- A code was run: the state and the cells agree with the machine after it. The target of its last jump
+-- doesn't matter any more.
 pub record HasRun (areas : List Area) (c : Context) (ops : List Op) (old : State) (before : ℕ → ℤ) (new : State)
     (after : ℕ → ℤ) : Type 0 where
   pub next : ℕ

@@ -1,4 +1,4 @@
--- What a cycle makes of a voice is a voice, and the frame law holds.
+-- A cycle turns a voice into a voice, and the frame law holds.
 use Rattle.std.proofs.Common.{◌≡◌, ◌≤◌, length, map, nat_lt, None, refl, sym, ◌∙◌, ap, subst}
 use Rattle.std.specs.List.{range_with_len}
 use Rattle.std.proofs.lemmas.{List.FromFn.length-map-range_with_len, List.get_or_past}
@@ -14,7 +14,7 @@ use Rattle.cs_voice.specs.inner.Rooms.{filled_has, filled_past, filled_keeps, re
 use Rattle.cs_voice.specs.inner.Rooms.{refilled_keeps, refilled_long, units_have}
 use Rattle.cs_base.specs.declared.resource.Rate.TheVariants as rate
 
--- a voice fits in the room that its code counts
+-- a voice fits into the registers, units and channels that its code counts
 pub fits : (d : VoiceData) → IsVoice d → VoiceFits d.code.counts (sounding d)
 fits d h = record {
   regs = λ q no. sym (ap (λ f. values f q) h.all_registers)
@@ -30,7 +30,7 @@ fits d h = record {
       (refilled_keeps d.outs (outs d.outs) c));
 }
 
--- a voice that takes what fits in it has that, and is again a voice
+-- a voice that takes fitting values has these values, and is a voice again
 module _ (d : VoiceData) (h : IsVoice d) (v : Sounding)
     (f : VoiceFits d.code.counts (record v { sheet = sheet_of d })) where
   regs_taken : values (filled d.regs v.regs) ≡ v.regs

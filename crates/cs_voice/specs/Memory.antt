@@ -11,11 +11,11 @@ use Rattle.cs_voice.specs.{declared.body.VoiceBody.VoiceBody, declared.stage.Sta
 use Rattle.cs_voice.specs.declared.stage.PieceTable.{PieceTable}
 use Rattle.cs_voice.specs.VoiceData.{VoiceData, IsOn, piece_of}
 
--- a table as the definitions have it, once it has been made
+-- a table as the definitions see it, once it has been made
 abbrev pub table_of : PieceTable → Table
 table_of t = record { number = t.number; size = t.size; frozen = t.points; present = true }
 
--- the voice that these parts make
+-- the voice that consists of these parts
 abbrev pub voice_in : ℕ → ℕ → ℕ → Stage → Footprint → Code → List ℤ → State → VoiceData
 voice_in number age until stage foot code fields s = record {
   number = number;
@@ -36,8 +36,8 @@ voice_in number age until stage foot code fields s = record {
   ended = s.ended;
 }
 
--- Parts make a voice that plays from a sheet: the sheet can be played, the layout has the zak places of the piece, the
--- code is valid, and the state is one in the piece.
+-- Parts form a voice that plays from a sheet: the sheet can be played, the layout has the zak places of the
+-- piece, the code is valid, and the state belongs to the piece.
 pub record MakeVoice (number age until : ℕ) (stage : Stage) (foot : Footprint) (code : Code) (fields : List ℤ)
     (s : State) : Type 0 where
   pub sheet : Sheet
@@ -48,7 +48,7 @@ pub record MakeVoice (number age until : ℕ) (stage : Stage) (foot : Footprint)
   pub fine : valid code ≡ true
   pub state : IsStateIn sheet.areas sheet.piece playable.kinds code.counts s
 
--- What is so of the parts of a voice.
+-- The invariant of the parts of a voice.
 pub record IsKept (number age until : ℕ) (stage : Stage) (foot : Footprint) (code : Code) (fields : List ℤ)
     (s : State) : Type
     0 where
@@ -59,9 +59,10 @@ pub record IsKept (number age until : ℕ) (stage : Stage) (foot : Footprint) (c
       voice.playable.kinds
       code.counts s
 
--- the voice that a body is, and what is so of each body
+-- the voice that a body represents
 abbrev pub data_of : VoiceBody → VoiceData
 data_of b = voice_in b.number b.age b.until b.stage b.foot.now b.code.now b.fields.items b.state
 
+-- the invariant of a voice in memory
 abbrev pub IsBody : VoiceBody → Type 0
 IsBody b = IsKept b.number b.age b.until b.stage b.foot.now b.code.now b.fields.items b.state

@@ -1,4 +1,4 @@
--- The code that a note begins with, done up to its end or up to a refusal.
+-- The code that a note begins with, done to its end or up to a refusal.
 use Rattle.std.specs.Prelude.{ℕ, ℤ, Bool, ◌≡◌, ◌≤◌, ◌++◌, true, List, [], length, map, Option, None}
 use Rattle.std.specs.Option.{option_map}
 use Rattle.cs_base.specs.Limits.{most_delay_samples}
@@ -15,7 +15,7 @@ use Rattle.cs_voice.specs.{Starting.cause_of, Starts.sheet_for, Tables.CanAllBeP
 use Rattle.cs_voice.specs.{declared.note.NewNote.NewNote, declared.tables.Finds.Finds}
 use Rattle.cs_voice.specs.declared.begin.StartRefusal.{StartRefusal}
 
--- What a note that begins finds is what its sheet says, and can be played on.
+-- What a note that begins finds agrees with its sheet, and can be played on.
 pub record IsFound (finds : Finds) (ms : List Bool) (s : Sheet) : Type 0 where
   pub setting : IsSettingOf finds.at s.areas s.piece
   pub places : AreSpaces s.areas
@@ -29,8 +29,8 @@ pub record IsStateOf (s : Sheet) (counts : Counts) (state : State) : Type 0 wher
   pub in_piece : (p : IsPlayable s) → IsStateIn s.areas s.piece p.kinds counts state
   pub delays : state.delays ≤ most_delay_samples
 
--- An op of the code that begins a sheet's notes: it is fine at some place of a code of some length, and what it names
--- is there.
+-- An op of the code that begins a sheet's notes: it is valid at some index of a code of some length, and
+-- everything that it names exists.
 pub record IsOpOf (s : Sheet) (counts : Counts) (op : Op) : Type 0 where
   pub end : ℕ
   pub place : ℕ
@@ -38,15 +38,15 @@ pub record IsOpOf (s : Sheet) (counts : Counts) (op : Op) : Type 0 where
   pub named : (p : IsPlayable s) → ActNamed p.stock p.kinds (HasArea s.areas) op.act (rate_at op.into)
   pub channel : has_channel s.piece.head.nchnls op.act ≡ true
 
--- A note of a sheet can begin: what it finds is what the sheet says, the sheet can be played, the state is one of its
--- code, and each cell of the piece can be read and written.
+-- A note of a sheet can begin: what it finds agrees with the sheet, the sheet can be played, the state
+-- belongs to its code, and each cell of the piece can be read and written.
 pub record CanBegin (access : Access) (finds : Finds) (ms : List Bool) (s : Sheet) (now : State) : Type 0 where
   pub found : IsFound finds ms s
   pub playable : IsPlayable s
   pub state : IsStateOf s now.regs.counts now
   pub bank : AllowsBelow access (word_count s.areas)
 
--- so can a code of the sheet
+-- the first code of the sheet can be done
 pub record CanPass (access : Access) (finds : Finds) (ms : List Bool) (code : Code) (s : Sheet)
     (now : State) : Type 0 where
   pub begin : CanBegin access finds ms s now
@@ -54,8 +54,9 @@ pub record CanPass (access : Access) (finds : Finds) (ms : List Bool) (code : Co
   pub valid : valid code ≡ true
   pub counts : now.regs.counts ≡ code.counts
 
--- A note can begin with these p-fields, in a new state of its first code: it finds what it plays in, it can be played,
--- its tables too, its layout has the zak places of the piece, and each cell of the piece can be read and written.
+-- A note can begin with these p-fields, in a new state of its first code: it finds what it plays in, it and
+-- its tables can be played, its layout has the zak places of the piece, and each cell of the piece can be
+-- read and written.
 pub record CanInitialise (access : Access) (finds : Finds) (note : NewNote) (fields : List ℤ)
     (now : State) : Type 0 where
   pub layout : finds.at.layout.now ≡ note.stage.layout.now
@@ -74,8 +75,8 @@ pub record CanInitialise (access : Access) (finds : Finds) (note : NewNote) (fie
       → piece.head.nchnls ≡ note.stage.head.now.nchnls
       → IsStateIn areas piece kinds note.instrument.now.init.counts now
 
--- An op is done: state and cells become what it makes of them in the world of voices, what it asks for comes behind
--- what was asked for, and where it is refused it is for the same cause.
+-- An op was done: state and cells become what the op makes of them in the world of voices, the notes that it
+-- schedules are appended to `asked`, and a refusal has the same cause.
 pub record IsDone (s : Sheet) (op : Op) (old : State) (before : ℕ → ℤ) (asked : List Ask) (new : State)
     (after : ℕ → ℤ) (given : List Ask) (refused : Option StartRefusal) : Type 0 where
   pub more : List (List ℤ)
@@ -86,7 +87,7 @@ pub record IsDone (s : Sheet) (op : Op) (old : State) (before : ℕ → ℤ) (as
       (machine_of old before next earlier None)
   pub state : IsStateOf s old.regs.counts new
 
--- The code is done, to its end or up to what is refused; of the machine the place of the next op alone isn't told.
+-- The code was done, to its end or up to a refusal; only the index of the machine's next op is left open.
 pub record Passes (s : Sheet) (old : State) (before : ℕ → ℤ) (asked : List Ask) (new : State)
     (after : ℕ → ℤ) (given : List Ask) (refused : Option StartRefusal) : Type 0 where
   pub next : ℕ

@@ -1,4 +1,4 @@
--- When an op may be done on a state over a bank.
+-- When an op may be done on a state and a bank.
 use Rattle.std.specs.Prelude.{ℕ, ℤ, ◌≡◌, Bool, true, false, length}
 use Rattle.cs_cells.specs.Access.{Access}
 use Rattle.cs_ir.specs.{Registers.rate_at, Resources.Stock, Validity.is_fine, declared.op.Act.Act, declared.op.Op.Op}
@@ -10,8 +10,8 @@ use Rattle.cs_machine.specs.States.{CanDo, Does, HasRoom, IsSettingOf, IsStateIn
 use Rattle.cs_machine.specs.declared.state.NoteSetting.{NoteSetting}
 use Rattle.cs_ir.specs.declared.op.Act.TheVariants as act
 
--- The acts that are done here: all but those that go on at another op, start a unit, look for a table or ask for a
--- note.
+-- The acts that are done here: all except those that go on at another op, start a unit, look for a table or
+-- schedule a note.
 abbrev pub is_here : Act → Bool
 is_here (act.Jump to) = false
 is_here (act.Unless to) = false
@@ -20,9 +20,9 @@ is_here act.Seek = false
 is_here act.Ask = false
 is_here _ = true
 
--- An op of a valid code may be done: the setting is that of a piece, whose areas are placed; the state is one of the
--- code and the piece; the units are of the op's opcode, and its channel is there; and what it touches may be read or
--- written.
+-- An op of a valid code may be done: the setting belongs to a piece whose areas are laid out; the state
+-- belongs to the code and the piece; the units have the op's opcode, and its channel exists; and everything
+-- that it touches may be read or written.
 pub record IsReady (access : Access) (at : NoteSetting) (piece : Piece) (kinds : Kinds) (stock : Stock) (op : Op)
     (s : State) : Type 0 where
   pub setting : IsSettingOf at at.layout.now piece
@@ -37,20 +37,20 @@ pub record IsReady (access : Access) (at : NoteSetting) (piece : Piece) (kinds :
   pub channel : has_channel piece.head.nchnls op.act ≡ true
   pub can : CanDo access at.layout.now stock op.act
 
--- some piece in which it may be done
+-- there is a piece in which the op may be done
 pub record CanBeDone (access : Access) (at : NoteSetting) (op : Op) (s : State) : Type 0 where
   pub piece : Piece
   pub kinds : Kinds
   pub stock : Stock
   pub ready : IsReady access at piece kinds stock op s
 
--- In whatever piece it may be done, the op is done there.
+-- The op is done in every piece in which it may be done.
 abbrev pub DoesOp : Access → NoteSetting → Op → State → (ℕ → ℤ) → State → (ℕ → ℤ) → Type 0
 DoesOp access at op old before new after = (piece : Piece) (kinds : Kinds) (stock : Stock)
     → IsReady access at piece kinds stock op old
     → Does at.layout.now piece kinds old.regs.counts op.act op.into op.from old before new after
 
--- The acts that touch registers and output channels alone.
+-- The acts that touch only registers and output channels.
 abbrev pub is_plain : Act → Bool
 is_plain (act.Load g) = false
 is_plain (act.Save g) = false
@@ -59,7 +59,7 @@ is_plain (act.Zak opcode reach) = false
 is_plain (act.Store reach) = false
 is_plain a = is_here a
 
--- An op of a valid code fits a state: its registers and its channel are there.
+-- An op of a valid code fits a state: its registers and its channel exist.
 pub record IsFit (op : Op) (s : State) : Type 0 where
   pub end : ℕ
   pub place : ℕ

@@ -1,4 +1,4 @@
--- Units that are started: what a note keeps of each, and why it isn't started.
+-- Units that are started: what a note stores of each, and why one isn't started.
 use Rattle.std.specs.Prelude.{ℕ, ℤ, ◌≡◌, ◌≤◌, List, slice_set, Option, Some, None, if◌then◌else◌}
 use Rattle.std.specs.Option.{is_some, option_map}
 use Rattle.cs_base.specs.{Limits.most_delay_samples, declared.resource.Rate.Rate}
@@ -14,7 +14,7 @@ use Rattle.cs_voice.specs.declared.begin.StartRefusal.{StartRefusal}
 use Rattle.cs_base.specs.declared.resource.Res.TheVariants as res
 use Rattle.cs_voice.specs.declared.begin.StartRefusal.TheVariants as refusal
 
--- the player of a unit on a table, and of one that has none
+-- the player of a unit on a table
 abbrev pub player_on : List Area → Table → ℤ → UnitState → PlayerData
 player_on areas t number unit = record {
   table = number;
@@ -23,10 +23,11 @@ player_on areas t number unit = record {
   area = if is_some t.frozen then None else area_of areas (res.Table t.number);
 }
 
+-- the player of a unit without a table
 abbrev pub player_alone : ℤ → UnitState → PlayerData
 player_alone number unit = record { table = number; state = unit; points = None; area = None }
 
--- a unit of a number was put into a state, whose delays have so many samples now
+-- the player of a unit was put into a state, whose delays have `samples` samples now
 pub record HasUnit (old : State) (unit : ℕ) (p : PlayerData) (samples : ℕ) (new : State) : Type 0 where
   pub players : new.players.items ≡ slice_set old.players.items unit (Some p)
   pub delays : new.delays ≡ samples
@@ -40,8 +41,8 @@ abbrev pub cause_of : StartRefusal → Cause
 cause_of (refusal.NoTable number) = no_table number
 cause_of (refusal.DelayTooLong samples) = delay_too_long samples
 
--- A state becomes what the start of a unit makes of it in the world of voices, or is refused for the same cause; its
--- delays stay within their limit.
+-- A state becomes what the start of a unit makes of it in the world of voices, or is refused for the same
+-- cause; its delays stay within their limit.
 pub record Starts (areas : List Area) (piece : Piece) (kinds : Kinds) (counts : Counts) (opcode : Opcode) (rate : Rate)
     (unit : ℕ)
     (settled : List ℤ) (old new : State) (refused : Option StartRefusal) : Type 0 where

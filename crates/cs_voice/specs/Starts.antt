@@ -13,7 +13,7 @@ use Rattle.cs_voice.specs.{declared.note.NewNote.NewNote, declared.note.Started.
 use Rattle.cs_voice.specs.declared.begin.StartRefusal.TheVariants as refusal
 use Rattle.cs_voice.specs.declared.note.Started.TheVariants as started
 
--- the piece as a note of these p-fields finds it, of whose tables each has been made by now or not
+-- the piece as a note with these p-fields finds it; `made` says which of its tables have been made
 abbrev pub piece_at : Stage → List Bool → List ℤ → Piece
 piece_at stage made fields = record {
   head = header_of_head stage.head.now;
@@ -23,7 +23,7 @@ piece_at stage made fields = record {
   fields = λ k. argument fields (k - 1);
 }
 
--- what a note of an instrument plays from
+-- the sheet that a note of an instrument plays from
 abbrev pub sheet_at : Numbered → ℕ → Footprint → Stage → List Bool → List ℤ → Sheet
 sheet_at instrument age foot stage made fields = record {
   number = instrument.number;
@@ -36,24 +36,25 @@ sheet_at instrument age foot stage made fields = record {
   perf = instrument.perf.ops;
 }
 
--- what a note that is to begin plays from, with these p-fields
+-- the sheet that a note which is to begin plays from, with these p-fields
 abbrev pub sheet_for : NewNote → List ℤ → Sheet
 sheet_for note fields = sheet_at note.instrument.now note.age note.foot.now note.stage note.made.now fields
 
--- the voice that a machine has become, which plays from a sheet, of a note that has ended in cycle `until`
+-- the voice that a machine has become, which plays from a sheet; its note has ended in cycle `until`
 pub record IsLive (s : Sheet) (until : ℕ) (m : Machine VoiceState) (v : VoiceData) : Type 0 where
   pub cause : m.world.cause ≡ None
   pub sounds : sounding_on s v ≡ voice_of s m
   pub plays : IsOn s v
   pub ends : v.until ≡ until
 
--- What came of a note, by the machine that began: a voice, exactly where nothing was refused, or else the cause.
+-- The result of starting a note, by the machine that began: a voice if and only if nothing was refused, and
+-- otherwise the cause.
 abbrev pub IsStarted : Sheet → ℕ → Machine VoiceState → Started → Type 0
 IsStarted s until m (started.Live v) = IsLive s until m v
 IsStarted s until m (started.NoTable number) = m.world.cause ≡ Some (no_table number)
 IsStarted s until m (started.DelayTooLong samples) = m.world.cause ≡ Some (delay_too_long samples)
 
--- what is told of a refusal
+-- the result for a refusal
 abbrev pub started_as : StartRefusal → Started
 started_as (refusal.NoTable number) = started.NoTable number
 started_as (refusal.DelayTooLong samples) = started.DelayTooLong samples

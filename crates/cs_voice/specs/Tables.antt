@@ -12,19 +12,19 @@ use Rattle.cs_base.specs.declared.resource.Res.TheVariants as res
 abbrev pub table_at : PieceTable → Bool → Table
 table_at t made = record (table_of t) { present = made }
 
--- tables, of which each has been made or not
+-- tables; `made` says for each whether it has been made
 abbrev pub tables_of : List PieceTable → List Bool → List Table
 tables_of [] made = []
 tables_of (t ∷ tables) [] = []
 tables_of (t ∷ tables) (m ∷ made) = table_at t m ∷ tables_of tables made
 
--- A table can be played: its size is a power of two or one more, a frozen one has as many points, and a live one has an
--- area.
+-- A table can be played: its size is a power of two or one more, a frozen one has as many points, and a live
+-- one has an area.
 pub record CanBePlayed (areas : List Area) (t : Table) : Type 0 where
   pub power : is_len (len_of t.size) ≡ true
   pub points : (points : List ℤ) → t.frozen ≡ Some points → length points ≡ t.size
   pub area : t.frozen ≡ None → HasArea areas (res.Table t.number)
 
--- so can each that is found by a number
+-- each table that is found by its number can be played
 abbrev pub CanAllBePlayed : List Area → List Table → Type 0
 CanAllBePlayed areas tables = (number : ℤ) (t : Table) → find_table tables number ≡ Some t → CanBePlayed areas t

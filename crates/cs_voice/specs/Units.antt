@@ -1,4 +1,4 @@
--- What a unit of a note does in a control cycle, by what the note keeps of it.
+-- What a unit of a note does in a control cycle, from what the note stores of it.
 use Rattle.std.specs.Prelude.{ℕ, ℤ, ◌≡◌, Bool, true, not, ◌||◌, List, length, unsigned_abs, Option, Some, None}
 use Rattle.std.specs.Prelude.{if◌then◌else◌}
 use Rattle.cs_base.specs.declared.resource.Rate.{Rate}
@@ -14,35 +14,35 @@ use Rattle.cs_voice_meaning.specs.{Follows.Kinds, Placing.IsPlaced}
 use Rattle.cs_machine.specs.{States.Does, States.IsStateIn, declared.state.State.State}
 use Rattle.cs_ir.specs.declared.op.Act.TheVariants as act
 
--- whether the table of a unit is within reach, where it has one
+-- whether a unit may play: it has no table, or its table is within reach
 abbrev pub may_play : Reach → PlayerData → Bool
 may_play reach p = not (has_table p) || reaches reach (unsigned_abs p.table)
 
--- A unit may be run on these registers: it takes as many, and the table that it reads may be read where it is within
+-- A unit may be run on these registers: it takes as many arguments, and its table may be read if it is within
 -- reach.
 pub record MayPlay (access : Access) (reach : Reach) (from : List Reg) (p : PlayerData) : Type 0 where
   pub unit : IsUnitOpcode (opcode_of p.state)
   pub operands : length from ≡ moving_count (opcode_of p.state)
   pub read : may_play reach p ≡ true → CanRead access p
 
--- the steps of a unit in a cycle, at a rate: where it comes to, and its results
+-- the state of a unit after a cycle at a rate, and its results
 abbrev pub cycled : ℕ → Rate → List Wave → (ℕ → ℤ) → PlayerData → UnitState × List ℤ
 cycled ksmps r ws cells p = stepped p ws cells (steps_of ksmps r)
 
--- the unit after a cycle, where there is one; and what it gives: nothing where there is none, or where its table is out
--- of reach
+-- the unit after a cycle, if there is one; it stays the same if its table is out of reach
 abbrev pub unit_after : ℕ → Rate → Reach → List Wave → (ℕ → ℤ) → Option PlayerData → Option PlayerData
 unit_after ksmps r reach ws cells None = None
 unit_after ksmps r reach ws cells (Some p) =
     Some (if may_play reach p then record p { state = (cycled ksmps r ws cells p).0 } else p)
 
+-- the results of a unit: 0 if there is no unit, or if its table is out of reach
 abbrev pub unit_gives : ℕ → Rate → Reach → List Wave → (ℕ → ℤ) → Option PlayerData → Wave
 unit_gives ksmps r reach ws cells None = silence
 unit_gives ksmps r reach ws cells (Some p) =
     if may_play reach p then (λ j. argument (cycled ksmps r ws cells p).1 (step_at r j)) else silence
 
--- The act `Unit` is done on a state and cells, in whatever piece has placed its areas and has the opcode, at the rate
--- of the op's register, as its unit of this number.
+-- The act `Unit` is done on a state and cells, in every piece that has laid out its areas and has the opcode,
+-- at the rate of the op's register, as the unit with this number.
 abbrev pub DoesUnit : ℕ → Reach → Reg → List Reg → State → (ℕ → ℤ) → State → (ℕ → ℤ) → Type 0
 DoesUnit u reach into from old before new after = (areas : List Area) (piece : Piece) (stock : Stock) (kinds : Kinds)
     (counts : Counts) (opcode : Opcode) → IsUnitOpcode opcode → kinds u ≡ (opcode, rate_at into)

@@ -1,4 +1,4 @@
--- A voice as contracts see it, in plain data; and the voice of the definitions that it is.
+-- A voice as contracts see it, in plain data; and the voice of the definitions that it represents.
 use Rattle.std.specs.Prelude.{ℕ, ℤ, ◌≡◌, ◌-◌, Bool, true, List, [], map, length, slice_index_or, Option, None}
 use Rattle.std.specs.List.{range_with_len}
 use Rattle.cs_typed.specs.Places.{Header}
@@ -12,9 +12,10 @@ use Rattle.cs_machine.specs.Registers.{RegisterFile, filled, values}
 use Rattle.cs_ugen.specs.Generators.{pace_of, the_generators}
 use Rattle.cs_voice_meaning.specs.{VoiceWorld.Playing, Voices.Sheet, Voices.Sounding}
 
--- A voice: the number of its instrument, its age, and the cycle in which its note has ended; the header, the zak
--- spaces, the tables, the areas that it sounds in and their zones; its p-fields, its footprint and its code; and its
--- registers, its units, the samples of its delays, its output channels, and whether it was turned off.
+-- A voice: everything that one note's performance needs. `number` is its instrument's, `age` counts the notes
+-- started before it, `until` is the cycle in which its note has ended; header, zak spaces, tables, areas and
+-- zones belong to the piece; then come its p-fields, footprint and code, its registers and units, the number
+-- of samples in its delays, its output channels, and whether it was turned off.
 pub record VoiceData : Type 0 where
   pub number : ℕ
   pub age : ℕ
@@ -33,8 +34,8 @@ pub record VoiceData : Type 0 where
   pub outs : ChannelFile
   pub ended : Bool
 
--- The piece that it sounds in, as a note finds it that is started when all tables have been made. Its p-fields begin
--- with p1.
+-- The piece in which the voice sounds, as a note finds it that starts after all tables have been made. Its
+-- p-fields begin with p1.
 abbrev pub piece_of : VoiceData → Piece
 piece_of d = record {
   head = d.head;
@@ -44,7 +45,7 @@ piece_of d = record {
   fields = λ k. argument d.fields (k - 1);
 }
 
--- what it plays from; how it began doesn't matter any more
+-- the sheet that the voice plays from; how it began doesn't matter any more
 abbrev pub sheet_of : VoiceData → Sheet
 sheet_of d = record {
   number = d.number;
@@ -57,10 +58,11 @@ sheet_of d = record {
   perf = d.code.ops;
 }
 
+-- the unit with each number
 abbrev pub units_in : List (Option Playing) → ℕ → Option Playing
 units_in units u = slice_index_or units u None
 
--- The voice of the definitions: with a sheet, and with its own.
+-- The voice of the definitions that plays from a sheet.
 abbrev pub sounding_on : Sheet → VoiceData → Sounding
 sounding_on s d = record {
   sheet = s;
@@ -71,14 +73,16 @@ sounding_on s d = record {
   ended = d.ended;
 }
 
+-- the voice of the definitions that plays from the voice's own sheet
 abbrev pub sounding : VoiceData → Sounding
 sounding d = sounding_on (sheet_of d) d
 
+-- a table that has been made
 abbrev pub made : Table → Table
 made t = record t { present = true }
 
--- A voice plays from a sheet: the sheet has what the voice has. But the voice may have begun by another code, and some
--- of the sheet's tables may not have been made as it began.
+-- A voice plays from a sheet: the two agree. But the voice may have begun with another code, and some of the
+-- sheet's tables may not have been made when it began.
 pub record IsOn (s : Sheet) (d : VoiceData) : Type 0 where
   pub number : s.number ≡ d.number
   pub age : s.age ≡ d.age
@@ -91,7 +95,7 @@ pub record IsOn (s : Sheet) (d : VoiceData) : Type 0 where
   pub foot : s.foot ≡ d.foot
   pub perf : s.perf ≡ d.code.ops
 
--- the same voice with what another has in its registers, units and channels
+-- the same voice with the registers, units and channels of another
 abbrev pub taking : VoiceData → Sounding → VoiceData
 taking d v = record d {
   regs = filled d.regs v.regs;

@@ -1,4 +1,4 @@
--- What private clauses alone cite.
+-- Definitions that only private clauses cite.
 pub mod Begun
 pub mod Coming
 pub mod Jumps

@@ -1,4 +1,4 @@
-// The sum of what voices give to each channel at each frame.
+// The sum of the voices' samples in each channel at each frame.
 ghost use Rattle.std.specs.Prelude.{◌≡◌, ◌≢◌, ◌<◌, ◌≤◌, ◌+◌, ◌*◌, ◌+ℤ◌, ℕ, length, pos, slice_index_or, All};
 ghost use Rattle.cs_base.specs.{Limits.most_notes, Numbers.IsRaw};
 ghost use Rattle.cs_machine.specs.Outputs.{outs};
@@ -11,12 +11,12 @@ use crate::Voice;
 use cs_base::Num;
 use cs_wav::add_block;
 
-/// How many frames of a channel are summed at a time.
+// The number of frames of a channel that are summed at a time.
 const FRAMES: usize = 32;
 
-/// Writes what `voices`, at most 512, give together in a control cycle of `frames` frames to `channels` channels: whole
-/// 65,536ths without bounds, frame by frame, channel beside channel. `out` has a number for each channel of each frame;
-/// what it held doesn't matter.
+/// Writes the sum of the samples that `voices`, at most 512, send in a control cycle of `frames` frames to
+/// `channels` channels: integers in units of 1/65,536 without bounds, frame by frame, the channels of a frame
+/// next to each other. `out` has a number for each channel of each frame; its earlier contents don't matter.
 pub fn mix(voices: &[Voice<'_>], frames: usize, channels: usize, out: &mut [i64])
     requires voices { All (λ (v : VoiceData). v.outs.ksmps ≡ frames) voices.now }
     requires few { length voices.now ≤ most_notes }
@@ -29,7 +29,7 @@ pub fn mix(voices: &[Voice<'_>], frames: usize, channels: usize, out: &mut [i64]
     }
 }
 
-/// One channel, some frames at a time.
+// Sums one channel, a few frames at a time.
 fn mix_channel(
     voices: &[Voice<'_>],
     frames: usize,
@@ -52,7 +52,8 @@ fn mix_channel(
     }
 }
 
-/// Some frames of a channel from one on, and tells the frame behind them.
+// Sums the frames of a channel from `from` on, as many as fit at a time, and returns the index of the frame
+// after them.
 fn mix_part(
     voices: &[Voice<'_>],
     frames: usize,
@@ -82,7 +83,7 @@ fn mix_part(
     from + count
 }
 
-/// What voices give to a channel from a frame on, in place of zeros.
+// Writes the sum of the voices' samples in a channel from a frame on over `sums`.
 fn sum_voices(voices: &[Voice<'_>], frames: usize, from: usize, channel: usize, sums: &mut [i64])
     requires voices { All (λ (v : VoiceData). v.outs.ksmps ≡ frames) voices.now }
     requires few { length voices.now ≤ most_notes }
@@ -99,7 +100,7 @@ fn sum_voices(voices: &[Voice<'_>], frames: usize, from: usize, channel: usize, 
     }
 }
 
-/// Adds what a voice gives to a channel from a frame on; nothing, where it is silent there.
+// Adds a voice's samples in a channel from a frame on; adds nothing if the voice is silent there.
 fn add_voice(voice: &Voice<'_>, from: usize, channel: usize, sums: &mut [i64])
     requires from { from + length sums.old ≤ voice.now.outs.ksmps }
     requires room { HasRoom sums.old }
@@ -113,7 +114,7 @@ fn add_voice(voice: &Voice<'_>, from: usize, channel: usize, sums: &mut [i64])
     }
 }
 
-/// Adds a row, a number a frame.
+// Adds a row with a number for each frame.
 fn add_row(row: &[Num], sums: &mut [i64])
     requires long { length row.now ≡ length sums.old }
     requires room { HasRoom sums.old }
@@ -125,7 +126,7 @@ fn add_row(row: &[Num], sums: &mut [i64])
     add_block(sums, row);
 }
 
-/// Sums come into their places of a channel from a frame on.
+// Writes sums to a channel of `out`, from a frame on.
 fn put(sums: &[i64], from: usize, channel: usize, channels: usize, out: &mut [i64])
     requires channel { channel < channels }
     requires long { (from + length sums.now) * channels ≤ length out.old }

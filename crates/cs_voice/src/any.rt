@@ -1,4 +1,4 @@
-// Any act but those that go on at another op, start a unit or ask for a note.
+// Any act except jumps, starts of units and the scheduling of notes.
 ghost use Rattle.std.specs.Prelude.{◌≡◌, true};
 ghost use Rattle.cs_voice.specs.Ready.{CanBeDone, DoesOp, IsFit, is_here, is_plain};
 ghost use Rattle.cs_cells.specs.Cells.{cell};
@@ -13,8 +13,8 @@ use cs_cells::Bank;
 use cs_ir::{Act, OpAt};
 use cs_machine::{NoteSetting, State, field_of, head_value};
 
-/// Does an op of a valid code on a state, over the cells of a bank: any but a jump, the start of a unit and the asking
-/// for a note.
+/// Does an op of a valid code on a state and the cells of a bank: any op except a jump, the start of a unit
+/// and the scheduling of a note.
 #[inline(always)]
 pub(crate) fn act<B: Bank>(state: &mut State<'_>, at: &NoteSetting<'_>, op: OpAt<'_>, bank: &mut B)
     requires here { is_here (there op).act ≡ true }
@@ -43,7 +43,7 @@ pub(crate) fn act<B: Bank>(state: &mut State<'_>, at: &NoteSetting<'_>, op: OpAt
     }
 }
 
-/// An op that touches registers and output channels alone.
+// Does an op that touches only registers and output channels.
 #[inline(always)]
 fn plain(state: &mut State<'_>, at: &NoteSetting<'_>, op: OpAt<'_>)
     requires plain { is_plain (there op).act ≡ true }

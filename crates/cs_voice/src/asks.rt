@@ -1,4 +1,4 @@
-// Notes that a note asks for as it begins.
+// Notes that a note schedules as it begins.
 ghost use Rattle.std.specs.Prelude.{◌≡◌, ◌++◌, ◌∷◌, [], map, true, OnOk};
 ghost use Rattle.std.specs.List.{list_all};
 ghost use Rattle.cs_ir.specs.{Placed.regs_read, Asks.ask_of, Validity.has_register, Waves.first_values};
@@ -9,7 +9,7 @@ use cs_ir::{Ask, Reads};
 use cs_machine::Registers;
 use std::alloc::Global;
 
-/// What some values ask for comes behind what was asked for before.
+/// Appends the note that some values schedule to the notes scheduled before.
 pub(crate) fn ask(alloc: Global, asks: &mut Vec<Ask>, values: &[Num]) -> Result<(), OutOfMemory>
     ensures { OnOk result (asks.new.items ≡ asks.old.items ++ ask_of values.now ∷ []) }
 {
@@ -18,7 +18,7 @@ pub(crate) fn ask(alloc: Global, asks: &mut Vec<Ask>, values: &[Num]) -> Result<
     Ok(())
 }
 
-/// What registers are as the note begins, in place of what `into` held.
+/// Fills `into` with the values of registers as the note begins, after removing its earlier contents.
 pub(crate) fn gather(
     regs: &Registers,
     from: Reads<'_>,

@@ -25,16 +25,16 @@ use cs_ugen::Unit;
 use cs_words::{Opcode, signature_of};
 use std::alloc::Global;
 
-/// Why a note doesn't start.
+/// The reason why a note doesn't start.
 #[derive(Clone, Copy)]
 pub(crate) enum StartRefusal {
-    /// A unit asks for a table that hasn't been made.
+    /// A unit needs a table that hasn't been made; the table's number.
     NoTable(i64),
-    /// The delays need so many samples together.
+    /// The delays need this number of samples in total.
     DelayTooLong(u64),
 }
 
-/// What is started: an opcode at a rate, as the unit of a number.
+/// The unit to start: its opcode, its rate and its number.
 #[derive(Clone, Copy)]
 pub(crate) struct UnitStart {
     pub opcode: Opcode,
@@ -42,7 +42,7 @@ pub(crate) struct UnitStart {
     pub unit: usize,
 }
 
-/// Starts a unit from its settled values. A table that it asks for is looked for first.
+/// Starts a unit from its settled values. The table that it needs is looked for first.
 pub(crate) fn begin<'p>(
     alloc: Global,
     state: &mut State<'p>,
@@ -85,7 +85,7 @@ pub(crate) fn begin<'p>(
     Ok(None)
 }
 
-/// Looks for the table that a store writes; None where it is there.
+/// Looks for the table that a store writes; returns None if it has been made.
 pub(crate) fn seek(tables: &[PieceTable], made: &[bool], settled: &[Num]) -> Option<StartRefusal>
     requires { length made.now ≡ length tables.now }
     ensures { Seeks (tables_of tables.now made.now) (table_number settled.now) result }
@@ -103,7 +103,8 @@ fn is_delay(opcode: Opcode) -> bool
     matches!(opcode, Opcode::Delay)
 }
 
-/// A unit on a table that has been made. It is so begun in whatever tables this one is found.
+// Starts a unit on a table that has been made. The result is the same in any list of tables that contains
+// this one.
 fn begin_on_table<'p>(
     alloc: Global,
     state: &mut State<'p>,
@@ -128,7 +129,7 @@ fn begin_on_table<'p>(
     Ok(())
 }
 
-/// How many samples the delays have together with a unit.
+// Returns the number of samples in all delays after the start of a unit.
 fn samples_with(delays: usize, opcode: Opcode, head: &Head, settled: &[Num]) -> u64
     requires { delays ≤ most_delay_samples }
     ensures { result ≡ samples_with opcode (pace_of (header_of_head head.now)) settled.now delays }
@@ -140,7 +141,7 @@ fn samples_with(delays: usize, opcode: Opcode, head: &Head, settled: &[Num]) -> 
     }
 }
 
-/// A unit without a table, after which the delays have so many samples.
+// Starts a unit without a table, after which the delays have `samples` samples.
 fn begin_alone(
     alloc: Global,
     state: &mut State<'_>,
@@ -163,7 +164,7 @@ fn begin_alone(
     Ok(())
 }
 
-/// The player of a unit on a table: the points of a frozen one, or the area of a live one.
+// Returns the player of a unit on a table: with the points of a frozen one, or the area of a live one.
 fn on_table<'p>(layout: &Layout, table: &'p PieceTable, number: i64, unit: Unit) -> Player<'p>
     requires { CanBePlayed layout.now (table_at table.now true) }
     ensures value { result ≡ player_on layout.now (table_at table.now true) number unit }
@@ -190,7 +191,7 @@ fn on_live<'p>(layout: &Layout, table: usize, number: i64, unit: Unit) -> Player
     Player::on_live(number, unit, area)
 }
 
-/// A unit comes into its place.
+// Stores a unit's player at the unit's index.
 fn put<'p>(state: &mut State<'p>, unit: usize, player: Player<'p>)
     requires { unit < length state.old.players.items }
     ensures { HasUnit state.old unit player.entry state.old.delays state.new }

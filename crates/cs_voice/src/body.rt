@@ -13,9 +13,9 @@ use cs_cells::{Bank, Footprint};
 use cs_ir::Code;
 use cs_machine::{NoteSetting, State};
 
-/// What a note performs, and what it has come to: the number of its instrument, its age (how many notes were started
-/// before it), the cycle in which it has ended, what it plays in, its footprint, the code that it runs in each control
-/// cycle, its p-fields from p1 on.
+/// What a note performs, and its state: the number of its instrument, its age (the number of notes that were
+/// started before it), the cycle in which it has ended, the stage that it plays in, its footprint, the code
+/// that it runs in each control cycle, its p-fields from p1 on, and the state of that code.
 #[derive(Drop)]
 pub(crate) struct VoiceBody<'p> {
     pub(crate) number: u32,
@@ -29,7 +29,7 @@ pub(crate) struct VoiceBody<'p> {
 }
 
 impl VoiceBody<'_> {
-    /// Performs a control cycle: its channels begin silent.
+    /// Performs a control cycle, at whose start the channels are silent.
     pub(crate) fn run<B: Bank>(&mut self, bank: &mut B)
         requires body { IsBody self.old }
         requires access { Allows (B.access (B.rest bank.old)) (Uses voice_job (data_of self.old))
@@ -47,13 +47,13 @@ impl VoiceBody<'_> {
             fields: &self.fields,
         };
         perform(&mut self.state, &at, &self.code.ops, bank);
-        // What registers and channels have is all that they are.
+        // For the prover: registers and channels are determined by their values.
         let _ = self.state.regs.counts();
         let _ = self.state.outs.len();
     }
 }
 
-/// Makes each channel silent, and leaves all else as it is.
+// Makes each channel silent, and leaves everything else as it is.
 fn begin(state: &mut State<'_>)
     ensures silent { outs state.new.outs ≡ (λ n. silence) }
     ensures channels { length state.new.outs.rows ≡ length state.old.outs.rows }

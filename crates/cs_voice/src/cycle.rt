@@ -8,7 +8,7 @@ use cs_cells::Bank;
 use cs_ir::Ops;
 use cs_machine::{NoteSetting, State};
 
-/// Runs a code over a cycle.
+/// Runs a code for a cycle.
 pub(crate) fn perform<B: Bank>(state: &mut State<'_>, at: &NoteSetting<'_>, ops: &Ops, bank: &mut B)
     requires { (c : Context) × CanRun (B.access (B.rest bank.old)) at.now c ops.now state.old }
     ensures run { (c : Context) → CanRun (B.access (B.rest bank.old)) at.now c ops.now state.old

@@ -1,4 +1,4 @@
-// What notes give together, wherever they are summed.
+// The sum of the samples of several notes, whoever adds them up.
 use crate::{Voice, mix};
 use cs_row::Heard;
 

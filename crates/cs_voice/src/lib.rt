@@ -1,19 +1,22 @@
-//! A note as it sounds: a job that begins with its first code, performs its second once a control cycle, and is heard.
+//! A note as it sounds: a job that begins with its first code, performs its second code once in each control
+//! cycle, and produces samples.
 //!
-//! The one contract: a `Voice` obeys the frame law of `Job`, and its run is a cycle of the voice of the definitions,
-//! with whatever sheet it plays from (`voices_perform`): what it leaves in the cells of its footprint, in its registers
-//! and units and in its channels is what its code does there. `start` leaves what the definition of a voice's beginning
-//! says (`initialised` of cs_voice_meaning), also where it is refused; no run can fail for want of memory. `mix` writes
-//! for each frame and channel the plain sum of what the voices give there (`mixed`).
+//! The one contract: a `Voice` obeys the frame law of `Job`, and its run is a cycle of the voice of the
+//! definitions, with any sheet that it plays from (`voices_perform`): it leaves in the cells of its
+//! footprint, in its registers and units and in its channels exactly what its code does there. `start` leaves
+//! the result that the definition of a voice's beginning states (`initialised` of cs_voice_meaning), even if
+//! the note is refused; no run can fail for lack of memory. `mix` writes for each frame and channel the plain
+//! sum of the voices' samples (`mixed`).
 //!
-//! How a voice lies in memory, how its tables and cells are found, in which loop its codes are done and in which order
-//! voices are added may be changed without anyone above noticing.
+//! These may be changed without anyone above noticing: how a voice lies in memory, how its tables and cells
+//! are found, which loop runs its codes, and in which order voices are added.
 //!
-//! Modules in reading order: `shared` (what notes share, by resource and rate), `zak` (zak places), `unit` (units),
-//! `store` (stores into tables), `any` (the act of any op); `tables` (what a note finds), `begin` (units), `asks`,
-//! `starter` (what only a code has that begins a note), `run` (steps, and the routines that they invoke); `stage` (what
-//! all notes of a piece play in), `cycle` (the second code, once a control cycle), `body`, `voice` (the note and its
-//! run as a job), `laws`; `pass` (the first code), `note` (how a note begins); `adding` (what voices give together).
+//! Modules in reading order: `shared` (what notes share, by resource and rate), `zak` (zak places), `unit`
+//! (units), `store` (stores into tables), `any` (the act of any op); `tables` (the tables that a note finds),
+//! `begin` (units), `asks` (scheduled notes), `starter` (what only the code that begins a note has), `run`
+//! (steps, and the routines that they invoke); `stage` (what all notes of a piece play in), `cycle` (the
+//! second code, once in each control cycle), `body`, `voice` (the note and its run as a job), `laws`; `pass`
+//! (the first code), `note` (how a note begins); `adding` (the sum of voices).
 #![tactic(auto)]
 
 mod adding;

@@ -17,28 +17,28 @@ use cs_ir::{Ask, Instrument};
 use cs_machine::{NoteSetting, State};
 use std::alloc::Global;
 
-/// What came of a note that was to begin.
+/// The result of starting a note.
 #[derive(Drop)]
 pub enum Started<'p> {
-    /// It plays.
+    /// The note plays.
     Live(Voice<'p>),
-    /// A unit asks for the table of this number, which isn't there or hasn't been made by now.
+    /// A unit needs the table with this number, which doesn't exist or hasn't been made by now.
     NoTable { number: i64 },
-    /// Its delays up to here need so many samples together, which are more than 262,144.
+    /// The delays started so far need this number of samples in total, which is more than 262,144.
     DelayTooLong { samples: u64 },
 }
 
 /// A note that is to begin.
 #[derive(Clone, Copy)]
 pub struct NewNote<'m, 'p> {
-    /// What it plays.
+    /// The instrument that it plays.
     pub instrument: &'p Instrument,
-    /// What its codes touch of what notes share.
+    /// The shared resources that its codes touch.
     pub foot: &'p Footprint,
     pub stage: Stage<'p>,
-    /// Of each table of the stage, whether it has been made by now.
+    /// For each table of the stage, whether it has been made by now.
     pub made: &'m [bool],
-    /// How many notes were started before it.
+    /// The number of notes that were started before it.
     pub age: u64,
     /// The cycle in which it has ended.
     pub until: u64,
@@ -46,10 +46,10 @@ pub struct NewNote<'m, 'p> {
 
 /// Begins a note; `fields` are its p-fields, from p1 on.
 ///
-/// It does the code that begins the instrument's notes. What that asks for comes behind `asks`, in order. It stops
-/// where a unit asks for a table that isn't there, or where the delays become too long together; what was written to
-/// the cells and asked for before stays. Where there is too little memory, the note doesn't play, and some of the code
-/// may have been done.
+/// It does the code that begins the instrument's notes. The notes which that code schedules are appended to
+/// `asks`, in order. It stops if a unit needs a table that hasn't been made, or if the delays become too long
+/// in total; everything written to cells and scheduled before that stays. If memory runs out, the note
+/// doesn't play, and part of the code may have been done.
 pub fn start<'p, B: Bank>(
     alloc: Global,
     note: &NewNote<'_, 'p>,

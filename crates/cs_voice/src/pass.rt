@@ -15,7 +15,7 @@ use cs_machine::State;
 use std::alloc::Global;
 use std::mem;
 
-/// Does the code that begins a note to its end, or up to what is refused. What was written and asked for before a
+/// Does the code that begins a note, to its end or up to a refusal. Everything written and scheduled before a
 /// refusal stays.
 pub(crate) fn pass<'s, 'p, B: Bank>(
     alloc: Global,

@@ -20,7 +20,7 @@ use cs_cells::Bank;
 use cs_ir::{Act, Call, Op, OpAt, Ops, Routine, Step, Window, holds};
 use cs_machine::{NoteSetting, Registers, State};
 
-/// Does a code from place to place, up to its end or up to what the starter refuses. What a jump passes over costs
+/// Does a code from its start to its end, or up to a refusal of the starter. Ops that a jump skips cost
 /// nothing.
 pub(crate) fn run<'p, B: Bank>(
     state: &mut State<'p>,
@@ -50,7 +50,7 @@ pub(crate) fn run<'p, B: Bank>(
     steps_in(state, at, &code, starter, bank)
 }
 
-/// Steps that are done in a window, and the routines that they may invoke.
+// Steps that run in a window of registers and units, and the routines that they may invoke.
 #[derive(Clone, Copy)]
 struct Invoked<'c> {
     routines: &'c [Routine],
@@ -59,7 +59,7 @@ struct Invoked<'c> {
 }
 
 impl<'c> Invoked<'c> {
-    /// One of its ops, where it is done.
+    // Returns an op of the steps, moved into their window.
     #[inline(always)]
     fn op<'o>(&'o self, op: &'o Op) -> OpAt<'o>
         ensures op { there result ≡ moved_op self.now.window 0 op.now }
@@ -72,7 +72,7 @@ impl<'c> Invoked<'c> {
     }
 }
 
-/// Does steps, up to their end or up to what the starter refuses.
+// Does steps, to their end or up to a refusal of the starter.
 #[cycle(run)]
 fn steps_in<'p, B: Bank>(
     state: &mut State<'p>,
@@ -131,7 +131,7 @@ fn steps_in<'p, B: Bank>(
     Ok(None)
 }
 
-/// Does the steps of a routine that is called; nothing where there is none.
+// Does the steps of the routine that is called, or nothing if there is no such routine.
 #[cycle(run)]
 fn invoke<'p, B: Bank>(
     state: &mut State<'p>,
@@ -169,7 +169,7 @@ fn invoke<'p, B: Bank>(
     }
 }
 
-/// The step at a place of a list.
+// Returns the step at an index of a list.
 #[inline(always)]
 fn step_at(steps: &[Step], place: usize) -> &Step
     requires { place < length steps.now }
@@ -178,7 +178,7 @@ fn step_at(steps: &[Step], place: usize) -> &Step
     &steps[place]
 }
 
-/// Whether the condition of an op holds.
+// Returns whether the condition of an op holds.
 #[inline(always)]
 fn condition(regs: &Registers, op: OpAt<'_>) -> bool
     requires one { length (there op).from ≡ 1 }

@@ -15,7 +15,7 @@ use cs_cells::{Area, Bank};
 use cs_ir::Reg;
 use cs_machine::{NoteSetting, Registers, State, area_in, read_row, write_row, write_value};
 
-/// Reads what notes share into a register: the act `Load`.
+/// Reads a shared resource into a register: the act `Load`.
 pub(crate) fn load<B: Bank>(
     state: &mut State<'_>,
     at: &NoteSetting<'_>,
@@ -44,7 +44,7 @@ pub(crate) fn load<B: Bank>(
     );
 }
 
-/// Writes a register to what notes share: the act `Save`.
+/// Writes a register to a shared resource: the act `Save`.
 pub(crate) fn save<B: Bank>(
     state: &mut State<'_>,
     at: &NoteSetting<'_>,
@@ -65,7 +65,7 @@ pub(crate) fn save<B: Bank>(
     write(&state.regs, &mut state.row, x, res.rate(), area, bank);
 }
 
-/// A register takes what an area holds of a value of some rate.
+/// Sets a register to the value, of some rate, that is in an area.
 pub(crate) fn read<B: Bank>(
     regs: &mut Registers,
     row: &mut Vec<Num>,
@@ -93,7 +93,7 @@ pub(crate) fn read<B: Bank>(
     }
 }
 
-/// The first cell of an area.
+// Returns the first cell of an area.
 fn first_cell<B: Bank>(bank: &mut B, area: Area) -> Num
     requires some { 0 < area.length }
     requires read { CanGet (B.access (B.rest bank.old)) area }
@@ -104,7 +104,7 @@ fn first_cell<B: Bank>(bank: &mut B, area: Area) -> Num
     bank.get(area.first)
 }
 
-/// An area takes what a register holds, as it is kept at a rate.
+/// Writes a register's value into an area, as a rate stores it.
 pub(crate) fn write<B: Bank>(
     regs: &Registers,
     row: &mut Vec<Num>,
@@ -129,7 +129,7 @@ pub(crate) fn write<B: Bank>(
     }
 }
 
-/// An area of sound takes a register, frame by frame.
+// Writes a register into an audio area, frame by frame.
 fn write_frames<B: Bank>(regs: &Registers, row: &mut Vec<Num>, x: Reg, area: Area, bank: &mut B)
     requires x { has_register regs.now.counts x ≡ true }
     requires row { length row.old.items ≡ regs.now.ksmps }

@@ -1,4 +1,4 @@
-// What only a code has that begins a note: it starts units, looks for tables and asks for notes.
+// What only the code that begins a note has: it starts units, looks for tables and schedules notes.
 ghost use Rattle.std.specs.Prelude.{◌≡◌, [], true, IfOk, Some};
 ghost use Rattle.cs_ir.specs.{Flat.leaves_room, Placed.there};
 ghost use Rattle.cs_voice.specs.{Codes.CanStart, Codes.HasStarted, inner.Jumps.is_start};
@@ -13,16 +13,16 @@ use cs_machine::State;
 use std::alloc::Global;
 use std::mem;
 
-/// What a note begins with. A control cycle has none, and starts nothing.
+/// What a note begins with. A control cycle has no starter, and starts nothing.
 #[derive(Drop)]
 pub(crate) struct Starter<'f, 's, 'm, 'p> {
     pub alloc: Global,
     pub finds: &'f Finds<'s, 'p>,
-    /// Of each of the tables that it finds, whether it has been made by now.
+    /// For each of the tables in `finds`, whether it has been made by now.
     pub made: &'m [bool],
-    /// What registers are that a start, a look for a table or an ask reads.
+    /// The values of the registers that a start, a look for a table or the scheduling of a note reads.
     pub settled: Vec<Num>,
-    /// What has been asked for.
+    /// The notes that have been scheduled.
     pub asks: Vec<Ask>,
 }
 
@@ -69,7 +69,7 @@ impl<'p> Starter<'_, '_, '_, 'p> {
     }
 }
 
-/// Gives back what has been asked for.
+/// Moves the notes that have been scheduled to `asks`.
 pub(crate) fn give_asks(starter: &mut Option<Starter<'_, '_, '_, '_>>, asks: &mut Vec<Ask>)
     requires { asks.old.items ≡ [] }
     ensures { asks.new.items ≡ asked starter.old }
@@ -79,7 +79,7 @@ pub(crate) fn give_asks(starter: &mut Option<Starter<'_, '_, '_, '_>>, asks: &mu
     }
 }
 
-/// Does a start, a look for a table or an ask.
+/// Does a start, a look for a table or the scheduling of a note.
 #[inline(never)]
 pub(crate) fn start<'p>(
     starter: &mut Option<Starter<'_, '_, '_, 'p>>,

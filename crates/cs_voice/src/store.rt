@@ -14,8 +14,8 @@ use cs_cells::{Area, Bank};
 use cs_ir::{OpAt, Reach, Reg};
 use cs_machine::{NoteSetting, State, area_of, index, store};
 
-/// What is stored: a register, at the places that another one names, into the table whose number a third one holds; and
-/// the rate, which says how often: once a frame, or once a cycle.
+/// What to store: a register, at the indexes that another one names, into the table whose number a third one
+/// holds; and the rate, which decides how often: once in each frame, or once in a cycle.
 #[derive(Clone, Copy)]
 pub(crate) struct Storing {
     pub signal: Reg,
@@ -24,7 +24,7 @@ pub(crate) struct Storing {
     pub rate: Rate,
 }
 
-/// What an op that stores says to store.
+/// Returns what an op of a store says to store.
 #[inline(never)]
 pub(crate) fn storing_of(op: OpAt<'_>) -> Storing
     requires three { length (there op).from ≡ 3 }
@@ -41,8 +41,8 @@ pub(crate) fn storing_of(op: OpAt<'_>) -> Storing
     }
 }
 
-/// Stores a register into a live table: the act `Store`. A frozen table, one that isn't there and one out of reach stay
-/// as they are.
+/// Stores a register into a live table: the act `Store`. Does nothing if the table is frozen, doesn't exist
+/// or is out of reach.
 #[inline(never)]
 pub(crate) fn store_points<B: Bank>(
     state: &State<'_>,
@@ -69,7 +69,7 @@ pub(crate) fn store_points<B: Bank>(
     }
 }
 
-/// The area of the live table that a value names, where it is within reach.
+// Returns the area of the live table that a value names, or None if it isn't within reach.
 fn stored_area(at: &NoteSetting<'_>, reach: Reach, value: Num) -> Option<Area>
     ensures value { result ≡ stored_area at.now.layout.now reach (index value) }
     ensures small { IfSome result (λ area. area.first + area.length ≤ 65536) }
@@ -80,7 +80,7 @@ fn stored_area(at: &NoteSetting<'_>, reach: Reach, value: Num) -> Option<Area>
     }
 }
 
-/// How many steps a cycle of so many frames has at a rate.
+// Returns the number of steps that a cycle of `frames` frames has at a rate.
 fn steps(rate: Rate, frames: usize) -> usize
     ensures { result ≡ steps_of frames rate }
 {

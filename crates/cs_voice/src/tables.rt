@@ -8,7 +8,7 @@ use crate::PieceTable;
 use cs_base::Num;
 use cs_machine::NoteSetting;
 
-/// What a note that begins finds; beside it stands of each table whether it has been made by now.
+/// What a note that begins finds; a separate list says for each table whether it has been made by now.
 #[derive(Clone, Copy)]
 pub(crate) struct Finds<'s, 'p> {
     pub at: NoteSetting<'s>,
@@ -16,7 +16,7 @@ pub(crate) struct Finds<'s, 'p> {
     pub tables: &'p [PieceTable],
 }
 
-/// The first table of a number, where it has been made by now.
+/// Returns the first table with a number, or None if it hasn't been made by now.
 pub(crate) fn find_made<'p>(
     tables: &'p [PieceTable],
     made: &[bool],
@@ -43,7 +43,7 @@ fn has_number(table: &PieceTable, number: i64) -> bool
     !number.is_negative() && table.number == number.unsigned_abs() as usize
 }
 
-/// The number of the table that a unit asks for: the whole number below its first settled value.
+/// Returns the number of the table that a unit needs: the integer part of its first settled value.
 pub(crate) fn table_number(settled: &[Num]) -> i64
     ensures { result ≡ table_number settled.now }
 {

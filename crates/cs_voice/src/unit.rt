@@ -15,9 +15,9 @@ use cs_cells::Bank;
 use cs_ir::{Reach, Reads, Reg};
 use cs_machine::{Player, Registers, State, block, step};
 
-/// Runs the unit of a number for a cycle: the act `Unit`. Its result goes into a register, of which the rate says how
-/// many steps it makes: one a frame, or one for the whole cycle. Where there is no such unit, or its table is out of
-/// reach, the register becomes 0 and the unit stays as it is.
+/// Runs the unit with a number for a cycle: the act `Unit`. Its result goes into a register, whose rate
+/// decides how many steps it makes: one for each frame, or one for the complete cycle. If there is no such
+/// unit, or its table is out of reach, the register becomes 0 and the unit stays as it is.
 #[inline(always)]
 pub(crate) fn run_unit<B: Bank>(
     state: &mut State<'_>,
@@ -50,7 +50,7 @@ pub(crate) fn run_unit<B: Bank>(
     }
 }
 
-/// The steps of a unit in a cycle.
+// Makes the steps of a unit in a cycle.
 #[inline(always)]
 fn play<B: Bank>(
     player: &mut Player<'_>,

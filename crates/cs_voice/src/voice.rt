@@ -1,4 +1,4 @@
-// A note as it sounds: a job that performs its code once a control cycle.
+// A note as it sounds: a job that performs its code once in each control cycle.
 ghost use Rattle.std.specs.Prelude.{◌≡◌, length, IfOk, IfSome, IfNone};
 ghost use Rattle.cs_ir.specs.Waves.{silence};
 ghost use Rattle.cs_machine.specs.{Outputs.outs, Rows.row_wave};
@@ -11,8 +11,8 @@ use cs_cells::{Bank, Footprint, Job};
 use std::alloc::Global;
 use std::marker::Model;
 
-/// A note that plays: a box, so that a move of it moves an address. Contracts see what it plays from and what it has
-/// come to as plain data.
+/// A note that plays: a box, so that moving it moves only an address. Contracts see what it plays from and
+/// its state as plain data.
 #[derive(Drop)]
 pub struct Voice<'p> {
     body: Box<VoiceBody<'p>>,
@@ -31,14 +31,14 @@ impl<'p> Model for Voice<'p> {
 }
 
 impl<'p> Voice<'p> {
-    /// The voice of a note that has begun, of its parts. `OutOfMemory` where there is none for it; then its parts are
-    /// dropped.
+    /// Makes the voice of a note that has begun from its parts. Returns `OutOfMemory` if memory runs out;
+    /// then its parts are dropped.
     pub(crate) fn of(alloc: Global, parts: VoiceBody<'p>) -> Result<Voice<'p>, OutOfMemory>
         requires { MakeVoice parts.number parts.age parts.until parts.stage parts.foot.now parts.code.now
             parts.fields.items parts.state }
         ensures { IfOk result (λ v. v ≡ data_of parts.entry) }
     {
-        // What registers and channels have is all that they are.
+        // For the prover: registers and channels are determined by their values.
         let _ = parts.state.regs.counts();
         let _ = parts.state.outs.len();
         Ok(Voice {
@@ -46,28 +46,28 @@ impl<'p> Voice<'p> {
         })
     }
 
-    /// The number of its instrument.
+    /// Returns the number of its instrument.
     pub fn number(&self) -> u32
         ensures { result ≡ self.now.number }
     {
         self.body.number
     }
 
-    /// How many notes were started before it.
+    /// Returns the number of notes that were started before it.
     pub fn age(&self) -> u64
         ensures { result ≡ self.now.age }
     {
         self.body.age
     }
 
-    /// The cycle in which its note has ended.
+    /// Returns the cycle in which its note has ended.
     pub fn until(&self) -> u64
         ensures { result ≡ self.now.until }
     {
         self.body.until
     }
 
-    /// The header of the piece in which it plays.
+    /// Returns the header of the piece in which it plays.
     pub(crate) fn head(&self) -> &Head
         ensures head { header_of_head result.now ≡ self.now.head }
         ensures frames { self.now.outs.ksmps ≡ result.now.ksmps }
@@ -75,14 +75,14 @@ impl<'p> Voice<'p> {
         self.body.stage.head
     }
 
-    /// Whether it was turned off: it ends with this cycle.
+    /// Returns whether it was turned off: then it ends with this cycle.
     pub fn ended(&self) -> bool
         ensures { result ≡ self.now.ended }
     {
         self.body.state.ended
     }
 
-    /// What it gives to a channel in this cycle, a number a frame; None where it is silent there.
+    /// Returns its samples in a channel in this cycle, one for each frame, or None if it is silent there.
     pub fn channel(&self, channel: usize) -> Option<&[Num]>
         ensures some { IfSome result (λ row. row_wave row.now ≡ outs self.now.outs channel) }
         ensures long { IfSome result (λ row. length row.now ≡ self.now.outs.ksmps) }

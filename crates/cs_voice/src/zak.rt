@@ -19,8 +19,8 @@ use cs_ir::{Act, OpAt, Reach, Reg, places_of, zak_place};
 use cs_machine::{NoteSetting, State, area_in, clear_places, index, mix_row};
 use cs_words::{Opcode, Shape, Space, signature_of};
 
-/// Does an op on zak places, by the shape of its opcode: the act `Zak`. Where no place within reach has the number that
-/// a value names, 0 is read, and nothing is written.
+/// Does an op on zak places, by the shape of its opcode: the act `Zak`. If no place within reach has the
+/// number that a value names, 0 is read, and nothing is written.
 #[inline(never)]
 pub(crate) fn zak<B: Bank>(state: &mut State<'_>, at: &NoteSetting<'_>, op: OpAt<'_>, bank: &mut B)
     requires act { (opcode : Opcode) × (reach : Reach) × ((there op).act ≡ acts.Zak opcode reach) }
@@ -66,7 +66,7 @@ fn shape_of(opcode: Opcode) -> Shape
     signature_of(opcode).shape()
 }
 
-/// Adds a register of sound to the zak place that a value names, where it is within reach.
+// Adds an audio register to the zak place that a value names, if it is within reach.
 fn mix<B: Bank>(
     state: &mut State<'_>,
     at: &NoteSetting<'_>,
@@ -88,7 +88,7 @@ fn mix<B: Bank>(
     }
 }
 
-/// The zak place that a value names, where its space has it and it is within reach.
+// Returns the zak place that a value names, or None if its space doesn't have it or it is out of reach.
 fn place(at: &NoteSetting<'_>, space: Space, reach: Reach, value: Num) -> Option<Res>
     ensures { result ≡ reached at.now space reach (index value) }
 {

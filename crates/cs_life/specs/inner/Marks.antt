@@ -8,22 +8,24 @@ use Rattle.cs_voice_meaning.specs.Placing.{area_of, with_wave}
 use Rattle.cs_voice.specs.declared.stage.PieceTable.{PieceTable}
 use Rattle.cs_base.specs.declared.resource.Res.TheVariants as res
 
--- each of these tables that has the number has been made; of further ones the flags stay
+-- each of these tables that has the number is marked as made; further flags stay as they are
 abbrev pub marked : ℕ → List PieceTable → List Bool → List Bool
 marked number [] flags = flags
 marked number (t ∷ tables) [] = []
 marked number (t ∷ tables) (flag ∷ flags) = ((number == t.number) || flag) ∷ marked number tables flags
 
--- whether there is a table of the number, and the points of the first are cells
+-- whether there is a table with the number and the points of the first one are cells
 abbrev pub has_cells : List PieceTable → ℕ → Bool
 has_cells [] number = false
 has_cells (t ∷ tables) number = if t.number == number then not (is_some t.points) else has_cells tables number
 
+-- whether the points of a table are cells
 abbrev pub is_in_cells : Option Table → Bool
 is_in_cells None = false
 is_in_cells (Some t) = not (is_some t.frozen)
 
--- what a write of points leaves: where a table's points are cells, they are those, and all other cells stay
+-- the cells after points were written: if a table's points are cells, these are the points, and all other
+-- cells stay as they are
 abbrev pub PointsWritten : Bool → List Area → ℕ → List ℤ → Cells → Cells → Type 0
 PointsWritten false areas number points cells new = new ≡ cells
 PointsWritten true areas number points cells new =

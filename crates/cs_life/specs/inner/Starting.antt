@@ -19,24 +19,24 @@ active_of now s body t age =
 abbrev pub IsRefused : Note Plain → Type 0
 IsRefused t = (cause : Cause) × (t.world.cause ≡ Some cause)
 
--- What came of a start is what came of the note: a voice that plays it, or nothing, where it was refused.
+-- The result of a start represents the result for the note: a voice that plays it, or a refusal.
 abbrev pub IsBegun : Composition → Stage → List Bool → ℕ → Start → Block → Note Plain → Started → Type 0
 IsBegun c stage flags now s body t (started.Live v) =
     (t.world.cause ≡ None) × (IsVoice v → (age : ℕ) → Plays c stage flags v (active_of now s body t age))
 IsBegun c stage flags now s body t (started.NoTable number) = IsRefused t
 IsBegun c stage flags now s body t (started.DelayTooLong samples) = IsRefused t
 
--- all that a note asks for
+-- the moment after all the notes that a note schedules were added
 abbrev pub all_wanted : Composition → ℕ → ℤ → List Ask → Moment → Moment
 all_wanted c now time [] m = m
 all_wanted c now time (a ∷ rest) m = all_wanted c now time rest (asked c now time a m)
 
--- a count of starts that started nothing, in 64 bits, after an answer
+-- a count of starts that started nothing, in 64 bits, after the result of scheduling a note
 abbrev pub count_after : Added → ℕ → ℕ
 count_after added.Kept n = n
 count_after _ n = min (n + 1) (2 ^ 64 - 1)
 
--- which notes wait, and how many starts started nothing, stand at a moment
+-- the notes that wait and the number of starts that started nothing represent a moment
 pub record Wait (pending : Queue) (not_started : ℕ) (m : Moment) : Type 0 where
   pub due : (cycle : ℕ) → (waiting pending).due cycle ≡ m.waiting.due cycle
   pub kept : (waiting pending).kept ≡ m.waiting.kept

@@ -2,6 +2,7 @@
 use Rattle.cs_piece.specs.Setups.{SetupData}
 use Rattle.cs_piece.specs.declared.setup.Setup.TheInside.{Inside}
 
+-- the setup that these parts make
 abbrev pub data_of : Inside → SetupData
 data_of s = record {
   head = s.head;

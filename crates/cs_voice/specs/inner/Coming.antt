@@ -1,4 +1,5 @@
--- A code that has been done up to a place, by whatever it can be done as, and ops of it that are done from there on.
+-- A code that has been done up to an op, in either way in which it can be done, and ops of it that are done
+-- from there on.
 use Rattle.std.specs.Prelude.{ℕ, ℤ, Bool, ◌≡◌, ◌+◌, ◌<◌, ◌≤◌, ◌++◌, List, [], Option, Some, None, drop, length, map}
 use Rattle.std.specs.Prelude.{slice_get}
 use Rattle.cs_cells.specs.{Access.Access, declared.footprint.Area.Area}
@@ -12,14 +13,15 @@ use Rattle.cs_voice.specs.Passing.{CanPass, IsStateOf, Passes}
 use Rattle.cs_voice.specs.declared.begin.StartRefusal.{StartRefusal}
 
 module _ {W : Type 0} (o : World W) where
-  -- Up to a place of a code a machine has become another, which goes on there, and comes to the same end.
+  -- Machine m goes on at index `place` of the ops or before it, and reaches the same end as machine `first`
+  -- from the start.
   pub record IsUpTo (ops : List Op) (first : Machine W) (place : ℕ) (m : Machine W) : Type 0 where
     pub next : m.next ≤ place
     pub same : run o 0 ops first ≡ run o place (drop place ops) m
 
 -- ---- in a control cycle
 
--- a code has been run up to a place
+-- a code has been run up to an op
 pub record HasComeTo (areas : List Area) (c : Context) (ops : List Op) (place : ℕ) (old : State) (before : ℕ → ℤ)
     (s : State) (cells : ℕ → ℤ) : Type 0 where
   pub next : ℕ
@@ -29,7 +31,7 @@ pub record HasComeTo (areas : List Area) (c : Context) (ops : List Op) (place : 
 
 -- ---- as a note begins
 
--- the code of a sheet has been done up to a place
+-- the code of a sheet has been done up to an op
 pub record IsPassed (s : Sheet) (first : State) (before : ℕ → ℤ) (asked : List Ask) (place : ℕ) (now : State)
     (cells : ℕ → ℤ) (given : List Ask) : Type 0 where
   pub next : ℕ
@@ -42,15 +44,15 @@ pub record IsPassed (s : Sheet) (first : State) (before : ℕ → ℤ) (asked : 
 
 -- ---- as either
 
--- What is being done: the ops of a code, and the state, the cells and what had been asked for as it began.
+-- What is being done: the ops of a code, and the state, the cells and the scheduled notes when it began.
 pub record Outset : Type 0 where
   pub ops : List Op
   pub first : State
   pub before : ℕ → ℤ
   pub asked : List Ask
 
--- It has been done up to a place: as whatever code of a control cycle it can be run, and as the code of whatever sheet
--- it can begin a note.
+-- The code has been done up to an op: as every code of a control cycle as which it can be run, and as the
+-- code of every sheet as which it can begin a note.
 pub record IsDoneTo (access : Access) (at : NoteSetting) (finding : Finding) (o : Outset) (place : ℕ) (now : State)
     (cells : ℕ → ℤ) (given : List Ask) : Type 0 where
   pub cycle : (c : Context) → CanRun access at c o.ops o.first
@@ -59,11 +61,11 @@ pub record IsDoneTo (access : Access) (at : NoteSetting) (finding : Finding) (o 
       → code.ops ≡ o.ops → CanPass access f ms code s o.first
       → IsPassed s o.first o.before o.asked place now cells given
 
--- it is no code of a control cycle
+-- the code is no code of a control cycle
 abbrev pub IsOfNoCycle : Access → NoteSetting → Outset → Type 0
 IsOfNoCycle access at o = (c : Context) → CanRun access at c o.ops o.first → ⊥
 
--- Something was refused, so nothing more of it is done. In a control cycle nothing is.
+-- Something was refused, so nothing more of the code is done. In a control cycle nothing is refused.
 pub record IsRefused (access : Access) (at : NoteSetting) (finding : Finding) (o : Outset) (now : State)
     (cells : ℕ → ℤ) (given : List Ask) (refused : StartRefusal) : Type 0 where
   pub cycle : IsOfNoCycle access at o
@@ -71,19 +73,20 @@ pub record IsRefused (access : Access) (at : NoteSetting) (finding : Finding) (o
       → code.ops ≡ o.ops → CanPass access f ms code s o.first
       → Passes s o.first o.before o.asked now cells given (Some refused)
 
+-- the code has been done up to an op, or was refused
 abbrev pub HasGoneOn : Access → NoteSetting → Finding → Outset → ℕ → State → (ℕ → ℤ) → List Ask
     → Option StartRefusal → Type 0
 HasGoneOn access at finding o place now cells given None = IsDoneTo access at finding o place now cells given
 HasGoneOn access at finding o place now cells given (Some refused) =
     IsRefused access at finding o now cells given refused
 
--- ---- some ops of it, of a routine in a window
+-- ---- some ops of the code, of a routine in a window
 
--- some ops lie in a code from a place on
+-- these ops occur in a code from an index on
 abbrev pub LieFrom : List Op → ℕ → List Op → Type 0
 LieFrom whole place ops = (n : ℕ) → n < length ops → slice_get whole (place + n) ≡ slice_get ops n
 
--- They can be done: they lie in something that can be, and that has been done up to there.
+-- The ops can be done: they occur in a code that can be done and that has been done up to them.
 pub record CanDoOps (access : Access) (at : NoteSetting) (finding : Finding) (window : Begins) (ops : List Op)
     (now : State) (cells : ℕ → ℤ) (given : List Ask) : Type 0 where
   pub outset : Outset
@@ -92,7 +95,7 @@ pub record CanDoOps (access : Access) (at : NoteSetting) (finding : Finding) (wi
   pub can : CanGo access at finding outset.ops outset.first
   pub done : IsDoneTo access at finding outset place now cells given
 
--- They were: wherever they lie in something that had been done up to there, it has gone on behind them.
+-- The ops were done: every code in which they occur, done up to them, has gone on after them.
 pub record DoesOps (access : Access) (at : NoteSetting) (finding : Finding) (window : Begins) (ops : List Op)
     (old : State) (before : ℕ → ℤ) (asked : List Ask) (new : State) (after : ℕ → ℤ) (given : List Ask)
     (refused : Option StartRefusal) : Type 0 where
@@ -100,7 +103,7 @@ pub record DoesOps (access : Access) (at : NoteSetting) (finding : Finding) (win
       → IsDoneTo access at finding o place old before asked
       → HasGoneOn access at finding o (place + length ops) new after given refused
 
--- They can't be those of a control cycle.
+-- The ops can't belong to a code of a control cycle.
 pub record AreOfNoCycle (access : Access) (at : NoteSetting) (finding : Finding) (window : Begins) (ops : List Op)
     (old : State) (before : ℕ → ℤ) (asked : List Ask) : Type 0 where
   pub never : (o : Outset) (place : ℕ) → LieFrom o.ops place (moved_ops window place ops)

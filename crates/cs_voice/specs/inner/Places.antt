@@ -7,7 +7,7 @@ use Rattle.cs_row.specs.Heard.{IsSumOf}
 abbrev pub place : ℕ → List ℤ → ℕ → ℕ → ℤ
 place channels out frame channel = slice_index_or out (frame * channels + channel) (pos 0)
 
--- Each of these numbers is the sum of no more voices than there may be but one.
+-- Each of these numbers is the sum of fewer voices than the highest number of notes.
 pub record HasRoom (numbers : List ℤ) : Type 0 where
   pub added : ℕ
   pub few : added < most_notes

@@ -1,4 +1,4 @@
--- Registers, units and channels that are filled with values that fit in them have these values.
+-- Registers, units and channels that were filled with fitting values have these values.
 use Rattle.std.proofs.Common.{◌≡◌, ℕ, ℤ, pos, ◌<◌, ◌≤◌, Bool, true, false, List, [], length, map, nat_lt}
 use Rattle.std.proofs.Common.{slice_index_or, Option, None, if◌then◌else◌, refl, sym, ◌∙◌, ap, subst, ltb-true}
 use Rattle.std.proofs.Common.{zero-add}
@@ -16,7 +16,7 @@ use Rattle.cs_base.specs.declared.resource.Rate.TheVariants as rate
 use Rattle.cs_ir.specs.declared.register.Kind.TheVariants as kind
 
 module _ {A : Type 0} (f : ℕ → A) (n : ℕ) where
-  -- a list of what a function has at the first numbers
+  -- element m of the list of a function's values
   pub listed_at : (d : A) (m : ℕ) → m < n → slice_index_or (map f (range_with_len 0 n)) m d ≡ f m
   listed_at d m low = get_or-map-range_with_len f 0 n m m d low (zero-add m)
 
@@ -24,7 +24,7 @@ module _ {A : Type 0} (f : ℕ → A) (n : ℕ) where
   listed_past d m far = get_or_past (map f (range_with_len 0 n)) m d
       (subst (λ k. k ≤ m) (sym (length-map-range_with_len f 0 n)) far)
 
-  -- has what the function has, where that is nothing past them
+  -- the same for each m, if the function's values after the list are d
   pub listed_all : (d : A) (m : ℕ) → (nat_lt m n ≡ false → f m ≡ d)
       → slice_index_or (map f (range_with_len 0 n)) m d ≡ f m
   listed_all d m past = by_test (nat_lt m n)
@@ -37,7 +37,7 @@ row_is_held n w = row_held n w (row_of n w) (length-map-range_with_len w 0 n)
     (λ j low. listed_at w n (pos 0) j (subst (λ k. j < k) (length-map-range_with_len w 0 n) low))
 
 module _ (f : RegisterFile) (w : Reg → Wave) where
-  -- registers that hold one number, and those of sounds, of a kind of which there are so many
+  -- the registers of a kind that hold one number; the audio registers of a kind
   ones : Kind → List ℤ
   ones k = map (λ m. w (register k m) 0) (range_with_len 0 (at_kind f.counts.registers k))
 
@@ -73,7 +73,7 @@ module _ (f : RegisterFile) (w : Reg → Wave) where
   row_past k n past = ap row_wave (listed_past (λ m. row_of f.ksmps (w (register k m)))
       (at_kind f.counts.registers k) [] n (at_or_past n (at_kind f.counts.registers k) past))
 
--- registers that were filled with values that fit in them have them
+-- registers that were filled with fitting values have these values
 pub filled_has : (f : RegisterFile) (w : Reg → Wave) → ((q : Reg) → has_register f.counts q ≡ false → w q ≡ silence)
     → ((q : Reg) → held f.ksmps (rate_at q) (w q) ≡ w q) → values (filled f w) ≡ w
 unfolding ones rows
@@ -84,7 +84,7 @@ filled_has f w past keeps = λ t q. at q.kind q.offset t
     at kind.TemporaryAudio n = row_has f w past kind.TemporaryAudio n (keeps (register kind.TemporaryAudio n))
     at k n = one_has f w past k n (keeps (register k n))
 
--- what they have then fits in them
+-- registers that were filled are silent outside their counts
 pub filled_past : (f : RegisterFile) (w : Reg → Wave) (q : Reg) → has_register f.counts q ≡ false
     → values (filled f w) q ≡ silence
 unfolding ones rows
@@ -112,7 +112,7 @@ rows_held rows n k m long all = by_test (nat_lt m k)
     let e : slice_index_or rows m [] ≡ [] = get_or_past rows m [] (subst (λ k. k ≤ m) (sym long) far) in
     ap (λ row. held n rate.Audio (row_wave row)) e ∙ silence_held n ∙ sym (ap row_wave e))
 
--- rows that a function gives, each of so many numbers
+-- each row of a list that a function defines has n numbers
 listed_rows : (f : ℕ → Wave) (n k : ℕ) (m : ℕ) → m < k
     → length (slice_index_or (map (λ c. row_of n (f c)) (range_with_len 0 k)) m []) ≡ n
 listed_rows f n k m low = ap length (listed_at (λ c. row_of n (f c)) k [] m low) ∙ length-map-range_with_len (f m) 0 n
@@ -136,7 +136,7 @@ filled_keeps f w q = at q.kind q.offset
     at kind.TemporaryAudio n = row kind.TemporaryAudio n
     at k n = refl
 
--- channels that were filled with values that fit in them have them
+-- channels that were filled with fitting values have these values
 pub refilled_has : (f : ChannelFile) (w : ℕ → Wave) → ((c : ℕ) → nat_lt c (length f.rows) ≡ false → w c ≡ silence)
     → ((c : ℕ) → held f.ksmps rate.Audio (w c) ≡ w c) → outs (refilled f w) ≡ w
 refilled_has f w past keeps = λ t c. at c t
@@ -163,7 +163,7 @@ refilled_keeps f w c = rows_held (map (λ m. row_of f.ksmps (w m)) (range_with_l
 pub refilled_long : (f : ChannelFile) (w : ℕ → Wave) → length (refilled f w).rows ≡ length f.rows
 refilled_long f w = length-map-range_with_len (λ m. row_of f.ksmps (w m)) 0 (length f.rows)
 
--- places for units that were filled have what was filled in, where that is nothing past them
+-- units that were filled have the given values, if those after the last are None
 pub units_have : {A : Type 0} (w : ℕ → Option A) (n : ℕ) → ((u : ℕ) → nat_lt u n ≡ false → w u ≡ None)
     → (λ u. slice_index_or (map w (range_with_len 0 n)) u None) ≡ w
 units_have w n past = λ t u. listed_all w n None u (past u) t

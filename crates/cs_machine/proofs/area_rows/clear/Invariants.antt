@@ -3,7 +3,7 @@ use Rattle.cs_cells.specs.Cells.{cell, with_row}
 use Rattle.cs_ir.specs.Waves.{silence}
 use Rattle.cs_machine.proofs.area_rows.clear.Given as goal
 
--- so many cells are cleared
+-- the first cells are cleared
 abbrev pub invariant-loop-done : goal.invariant-loop-done
 invariant-loop-done g l = record {
   cells : cell (g.B.Bank.cells l.bank) ≡ with_row l.area.first l.done silence (cell (g.B.Bank.cells l.initial.bank));

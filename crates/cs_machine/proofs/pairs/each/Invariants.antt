@@ -3,7 +3,7 @@ use Rattle.cs_ir.specs.Waves.{both}
 use Rattle.cs_machine.specs.Rows.{Begins}
 use Rattle.cs_machine.proofs.pairs.each.Given as goal
 
--- the places before this one are filled
+-- the elements before this index are filled
 abbrev pub invariant-loop-j : goal.invariant-loop-j
 invariant-loop-j g l = record {
   frames : Begins l.j (both l.operator (g.X.Side.wave l.x) (g.Y.Side.wave l.y)) l.out;

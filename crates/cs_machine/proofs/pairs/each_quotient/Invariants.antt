@@ -4,7 +4,7 @@ use Rattle.cs_machine.specs.Rows.{Begins}
 use Rattle.cs_words.specs.declared.sign.BinOp.TheVariants as op
 use Rattle.cs_machine.proofs.pairs.each_quotient.Given as goal
 
--- the places before this one are filled
+-- the elements before this index are filled
 abbrev pub invariant-loop-j : goal.invariant-loop-j
 invariant-loop-j g l = record {
   frames : Begins l.j (both op.Div (g.X.Side.wave l.x) (g.Y.Side.wave l.y)) l.out;

@@ -4,7 +4,7 @@ use Rattle.cs_signal.specs.Operands.{operand_at}
 use Rattle.cs_machine.specs.Rows.{Begins}
 use Rattle.cs_machine.proofs.rows.apply_row.Given as goal
 
--- the places before this one are filled
+-- the elements before this index are filled
 abbrev pub invariant-loop-j : goal.invariant-loop-j
 invariant-loop-j l = record {
   frames : Begins l.j (λ j. applied l.function (operand_at l.x j)) l.out;

@@ -10,7 +10,7 @@ use Rattle.cs_voice.proofs.Fitting.{reads_two, second_there, sends_sound, sends_
 use Rattle.cs_voice.proofs.Fitting.{written_there}
 use Rattle.cs_voice.proofs.any.plain.Goals as goal
 
--- ---- what is written and read is there
+-- ---- what is written and read exists
 
 pub writes-requires : goal.writes-requires
 writes-requires c = writes_small c.requires.fit (acts_there c.args.op c.in-Const.is) refl
@@ -160,7 +160,7 @@ unreachable-requires c =
     other.not-Copy other.not-Neg other.not-Call other.not-Pair other.not-Pick other.not-Out other.not-OutAt
     other.not-Turnoff
 
--- ---- what is done
+-- ---- results
 
 pub returns-in-Const : goal.returns-in-Const
 returns-in-Const c = does_at (acts_there c.args.op c.in-Const.is) c.writes.ensures

@@ -186,7 +186,7 @@ steps_in-returns-clause-does g t c =
 pub invoke-further-requires : goal.invoke-further-requires
 invoke-further-requires g t c = room_in (length c.args.code.now.routines.now) c.args.code.now.window c.requires.low
 
--- the steps of a routine that is there stand for its ops
+-- the steps of an existing routine represent its ops
 routine_is : (list : List Routine) (n : ℕ) (r : Routine) (steps : List Step) → true ≡ nat_lt n (length list)
     → r ≡ get_or list n r → steps ≡ steps_of r
     → (n < length list) × (flat (library_in (take n list)) steps ≡ ops_at (library_in list) n)

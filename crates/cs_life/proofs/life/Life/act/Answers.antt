@@ -1,7 +1,7 @@
 use Rattle.std.proofs.Common.{◌≡◌, rules, to_z, of_z, w64, pos}
 use Rattle.std.proofs.lemmas.Result.{on_ok_weaker}
 use Rattle.cs_life.proofs.Going.{note_done, table_done, table_given}
-use Rattle.cs_roster.proofs.Growing.{grew_none}
+use Rattle.cs_life.proofs.Growing.{grew_none}
 use Rattle.cs_piece.specs.Setups.{composition_of}
 use Rattle.cs_life.proofs.life.Life.act.Goals as goal
 

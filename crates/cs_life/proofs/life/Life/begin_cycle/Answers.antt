@@ -6,7 +6,7 @@ use Rattle.cs_piece.specs.Setups.{composition_of}
 use Rattle.cs_tempo.specs.{declared.plot.Event.Event, declared.plot.Plot.Plot}
 use Rattle.cs_life.specs.inner.Doing.{CanBeDone, HasGoneOn}
 use Rattle.cs_life.proofs.{GivenTables.all_can_be_done, Going.begun, Going.goes_on}
-use Rattle.cs_roster.proofs.Growing.{all_stayed}
+use Rattle.cs_life.proofs.Growing.{all_stayed}
 use Rattle.cs_typed.specs.TypedTree as typed
 use Rattle.cs_life.proofs.life.Life.begin_cycle.Goals as goal
 

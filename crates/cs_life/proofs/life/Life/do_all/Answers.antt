@@ -4,7 +4,7 @@ use Rattle.cs_piece_meaning.specs.Starts.{all_done}
 use Rattle.cs_piece.specs.Setups.{composition_of}
 use Rattle.cs_life.specs.inner.Doing.{HasGoneOn}
 use Rattle.cs_life.proofs.Going.{event_can, event_done, goes_on}
-use Rattle.cs_roster.proofs.Growing.{grew_again, grew_none}
+use Rattle.cs_life.proofs.Growing.{grew_again, grew_none}
 use Rattle.cs_life.proofs.life.Life.do_all.Goals as goal
 
 pub loop-event-init : goal.loop-event-init

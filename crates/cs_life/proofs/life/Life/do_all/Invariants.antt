@@ -2,7 +2,7 @@ use Rattle.std.proofs.Common.{◌≡◌, take}
 use Rattle.cs_piece_meaning.specs.Starts.{all_done}
 use Rattle.cs_piece.specs.Setups.{composition_of}
 use Rattle.cs_life.specs.inner.Doing.{CanGoOn, HasGoneOn}
-use Rattle.cs_roster.specs.Roster.{Grew}
+use Rattle.cs_life.specs.inner.Roster.{Grew}
 use Rattle.cs_life.proofs.life.Life.do_all.Given as goal
 
 abbrev pub invariant-loop-event : goal.invariant-loop-event

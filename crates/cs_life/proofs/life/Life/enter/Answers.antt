@@ -2,7 +2,7 @@ use Rattle.std.proofs.Common.{◌∙◌, ◌<◌, subst, sym}
 use Rattle.cs_piece_meaning.specs.Starts.{entered}
 use Rattle.cs_life.proofs.Standings.{live_so, refused_if, vain_so}
 use Rattle.cs_life.specs.{Standing.StandsFor, inner.Starting.IsBegun}
-use Rattle.cs_roster.proofs.Growing.{grew_none}
+use Rattle.cs_life.proofs.Growing.{grew_none}
 use Rattle.cs_life.proofs.life.Life.enter.Goals as goal
 
 pub returns-in_default : goal.returns-in_default

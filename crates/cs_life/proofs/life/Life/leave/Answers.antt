@@ -1,6 +1,6 @@
 use Rattle.std.proofs.Common.{◌∙◌, ap, length, sym}
 use Rattle.cs_life.proofs.Left.{left_stands}
-use Rattle.cs_roster.proofs.Growing.{all_pass}
+use Rattle.cs_life.proofs.Growing.{all_pass}
 use Rattle.cs_life.specs.Leaving.{stays}
 use Rattle.cs_life.proofs.life.Life.leave.Goals as goal
 

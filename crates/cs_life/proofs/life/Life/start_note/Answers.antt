@@ -4,7 +4,7 @@ use Rattle.std.proofs.lemmas.Result.{on_ok_weaker}
 use Rattle.cs_base.specs.Limits.{most_notes}
 use Rattle.cs_piece_meaning.specs.Starts.{Start, start_of}
 use Rattle.cs_life.proofs.Beginning.{IsThere, none_there, there_is_room, too_many}
-use Rattle.cs_roster.proofs.Growing.{grew_none}
+use Rattle.cs_life.proofs.Growing.{grew_none}
 use Rattle.cs_piece.specs.Setups.{composition_of}
 use Rattle.cs_life.proofs.life.Life.start_note.Goals as goal
 

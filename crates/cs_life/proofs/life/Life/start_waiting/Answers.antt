@@ -5,7 +5,7 @@ use Rattle.cs_sched.specs.Waiting.{waiting}
 use Rattle.cs_piece.specs.Setups.{SetupData, composition_of}
 use Rattle.cs_life.specs.{Standing.StandsFor, inner.Doing.HasGoneOn}
 use Rattle.cs_life.proofs.Going.{goes_on}
-use Rattle.cs_roster.proofs.Growing.{grew_again, grew_none}
+use Rattle.cs_life.proofs.Growing.{grew_again, grew_none}
 use Rattle.cs_life.proofs.Waited.{all_started, begins_now, most_started, none_started, one_started, taken_out}
 use Rattle.cs_life.proofs.life.Life.start_waiting.Goals as goal
 

@@ -3,7 +3,7 @@ use Rattle.cs_base.specs.Limits.{most_asks}
 use Rattle.cs_piece_meaning.specs.Moments.{Moment}
 use Rattle.cs_piece.specs.Setups.{composition_of}
 use Rattle.cs_life.specs.{Standing.StandsFor, inner.Doing.CanGoOn}
-use Rattle.cs_roster.specs.Roster.{Grew}
+use Rattle.cs_life.specs.inner.Roster.{Grew}
 use Rattle.cs_life.proofs.Waited.{Waits}
 use Rattle.cs_life.proofs.life.Life.start_waiting.Given as goal
 

@@ -54,7 +54,7 @@ returns-clause-within c =
     (c.in_ok-shared.ensures.tables o c.in_ok-lowered.ensures.instruments
     ∙ ap (λ es. tables_in o es) c.as_slice-events.ensures))) ∙ c.in_ok-shared.ensures.within
 
--- the exit of a `?` gives the fault that it had
+-- a return by `?` has the fault of the call
 left_with : {B : Type 0} (r : Result B (Or LimitHit)) (e : Or LimitHit) (hit : LimitHit) → IsErrAnd r (λ y. y ≡ e)
     → r ≡ Err (or.Fault hit) → e ≡ or.Fault hit
 left_with (Ok b) e hit i is = elim i [ ]

@@ -1,9 +1,10 @@
--- A voice that was put in where a search by number points has joined, and then all are in order.
+-- A voice that was inserted at the index that a search by number returns has joined, and then all are in
+-- order.
 use Rattle.std.proofs.Common.{◌≡◌, ℕ, ◌≤◌, ◌<◌, true, false, List, length, get_or, arith, leb, leb-true, subst, sym}
 use Rattle.std.specs.List.{insert}
 use Rattle.std.specs.List.Sorted.{IsNonDecreasingBy, IsPartitionPoint}
 use Rattle.std.proofs.lemmas.{Bool.Decides.nat_tests, List.Sorted.IsNonDecreasingBy-insert}
-use Rattle.cs_roster.specs.Roster.{Joined}
+use Rattle.cs_life.specs.inner.Roster.{Joined}
 
 above : (x y : ℕ) → leb x y ≡ false → y < x
 above x y not_so = grind (arith, nat_tests)
@@ -22,7 +23,7 @@ module _ {V : Type 0} (n : V → ℕ) where
     is = is;
   }
 
-  -- once one has joined, voices are in order as before
+  -- voices are still in order after one has joined
   pub still_in_order : (voices : List V) (v : V) (after : List V) → IsNonDecreasingBy n voices → Joined n v voices after
       → IsNonDecreasingBy n after
   still_in_order voices v after order j =

@@ -1,8 +1,8 @@
--- The voices that play: where one joins them, and whether more of them play than before.
+-- The voices that play: where a voice joins them, and whether there are more of them than before.
 use Rattle.std.specs.Prelude.{ℕ, ◌≡◌, ◌≤◌, ◌<◌, List, length}
 use Rattle.std.specs.List.{AllWithin, insert}
 
--- A voice was put in behind all of its number and lower ones, and before all of higher ones.
+-- A voice was inserted after all voices with its number or a lower one, and before all with a higher one.
 pub record Joined {V : Type 0} (number : V → ℕ) (voice : V) (voices after : List V) : Type 0 where
   pub place : ℕ
   pub within : place ≤ length voices
@@ -10,7 +10,7 @@ pub record Joined {V : Type 0} (number : V → ℕ) (voice : V) (voices after : 
   pub higher : AllWithin (λ v. number voice < number v) voices place (length voices)
   pub is : after ≡ insert voices place voice
 
--- These voices are the others, or more of them: as many are the same ones.
+-- The list has at least as many voices as before, and is unchanged if it has exactly as many.
 pub record Grew {V : Type 0} (voices more : List V) : Type 0 where
   pub many : length voices ≤ length more
   pub same : length more ≡ length voices → more ≡ voices
