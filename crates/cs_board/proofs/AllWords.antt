@@ -1,4 +1,4 @@
--- The row of all words: what is found at each place, and what it is once a word is set.
+-- The list of all words: the word at each number, and the list after a word was set.
 use Rattle.std.proofs.lemmas.Grind.{common_steps}
 use Rattle.std.proofs.Common.{◌≡◌, ℕ, suc, ◌+◌, ◌<◌, List, [], ◌∷◌, ◌++◌, length, set, sym, ap, ◌∙◌, arith, zero-add}
 use Rattle.std.proofs.lemmas.List.{get_or_append_left, get_or-append-add, set-append_left, length-set}
@@ -9,7 +9,7 @@ set-append-add : (xs ys : List ℕ) (i x : ℕ) → set (xs ++ ys) (length xs + 
 set-append-add [] ys i x = ap (λ j. set ys j x) (zero-add i)
 set-append-add (y ∷ xs) ys i x = grind (arith, common_steps, set-append-add xs ys i x)
 
--- past a part of n words
+-- an element after a first part of n words
 past_get : (xs ys : List ℕ) (n i : ℕ) → length xs ≡ n → at (xs ++ ys) (n + i) ≡ at ys i
 past_get xs ys n i l = ap (λ m. at (xs ++ ys) (m + i)) (sym l) ∙ get_or-append-add xs ys i 0
 

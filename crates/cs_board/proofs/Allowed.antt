@@ -1,4 +1,4 @@
--- Each kind of step on a word keeps the rule, and tells what it promises.
+-- Each kind of step on a word preserves the rule, and lets the seat know what it promises.
 use Rattle.std.proofs.lemmas.{Grind.common_steps, Bool.cases_eq, List.set-get_or}
 use Rattle.std.proofs.Common.{◌≡◌, ◌≢◌, ℕ, ◌+◌, ◌<◌, ◌≤◌, ⊎_elim, List, length, set, true, false, Some, None, refl, sym}
 use Rattle.std.proofs.Common.{ap, ◌∙◌, subst, arith, slice_index, slice_set, eqb, eq-eqb, ne_eqb}
@@ -51,7 +51,7 @@ module _ {J : Type 0} (M : Meaning J) (k : Plan J) where
       → slice_index s.words (watch_at k e) ≡ at h.parts.watch e
   watch_is s h e low = ap (λ ws. at ws (watch_at k e)) h.words ∙ get_watch k h.parts h.sized e low
 
-  -- a word stands for one number
+  -- different parts of the words have different numbers
   one_status : (m : Plan J) (t u : ℕ) → m ≡ k → status_at k t ≡ status_at m u → t ≡ u
   one_status m t u same z = let y : status_at k t ≡ status_at k u =
       subst (λ q. status_at k t ≡ status_at q u) same z in omega arith

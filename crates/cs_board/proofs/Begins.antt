@@ -1,4 +1,4 @@
--- A note is claimed, or a try misses it; and the steps of a note that is done: they keep the facts.
+-- A note is claimed, or a try misses it; and the steps of a note that is being done: they preserve the facts.
 use Rattle.std.proofs.Common.{◌≡◌, ◌≢◌, ℕ, ◌+◌, ◌<◌, ◌≤◌, inl, inr, ⊎_elim, List, length, set, false, true, false, Some}
 use Rattle.std.proofs.Common.{None, refl, sym, ap, ◌∙◌, subst, arith, ◌==◌, nat_le, slice_get}
 use Rattle.std.proofs.lemmas.{Option.same_Some, Bool.and_right, Bool.cases_eq}
@@ -17,7 +17,7 @@ use Rattle.cs_board.proofs.Groups.{gates_status, sane_live, sane_step, doers_ste
 use Rattle.cs_board.proofs.Lists.{put_cases, put_counts, times-without, times-without_le}
 use mathlib.Core.Option as maybe
 
--- a status that is set to a number other than 3, where it was other than 3
+-- a status other than Done that is set to another one isn't Done either
 pub three_still : (st : List ℕ) (t x a : ℕ) → t < length st → at st t ≡ a → (x == 3) ≡ (a == 3) → (u : ℕ)
     → same (at st u) 3 ≡ same (at (set st t x) u) 3
 three_still st t x a low is side u = ap one (sym (alike st t x a low is side u))
@@ -28,7 +28,7 @@ module _ {J : Type 0} (M : Meaning J) (F : Frames M) (k : Plan J) (plan : IsPlan
   abbrev st : List ℕ
   st = p.status
 
-  -- note t was Available and is this seat's
+  -- note t was Available and now belongs to this seat
   pub facts_began : (t : ℕ) → t < k.notes → at p.status t ≡ 1 → v.plan ≡ k → v.doing ≡ None → v.closing ≡ None
       → v.moving ≡ None → v.spent ≡ false
       → Facts M k (record p { status = set p.status t 2 }) hs (set vs id (began M v t))
@@ -119,7 +119,7 @@ module _ {J : Type 0} (M : Meaning J) (F : Frames M) (k : Plan J) (plan : IsPlan
         turned = turned_still M k st vs id v w here st p.turns (λ u. refl) (λ r. refl) f.turned;
       }
 
-  -- a step of the note that the view does
+  -- a step of the note that the view is doing
   pub facts_does : (p' : Words) (hs' : List (maybe.Option (Berth J))) (d d' : Doing) → p'.status ≡ p.status
       → p'.watch ≡ p.watch → v.doing ≡ Some d → d'.note ≡ d.note → v.spent ≡ false
       → Owned p.status p'.own (set vs id (does v d')) → Slots M k p.status hs' (set vs id (does v d'))

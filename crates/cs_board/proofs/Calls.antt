@@ -1,4 +1,4 @@
--- A seat in the midst of a call, and after it.
+-- A seat during a call, and after it.
 use Rattle.std.proofs.lemmas.Option.{same_Some}
 use Rattle.std.proofs.Common.{◌≡◌, ℕ, ◌<◌, ◌≤◌, [], true, false, Option, Some, None, sym, ap, ◌∙◌, subst, IfSome}
 use Rattle.std.proofs.Common.{IfNone, MatchOption}
@@ -11,7 +11,7 @@ use Rattle.cs_board.specs.{declared.view.Doing.Doing, declared.view.Plan.Plan, d
 use Rattle.cs_cells.specs.Meaning.{Meaning}
 use Rattle.cs_board.proofs.Stepping.{place_after}
 
--- a view that does a note does no other
+-- a view that does a note does no other note
 pub note_here : (o : Option Doing) (e : Doing) (n m : ℕ) → o ≡ Some e → e.note ≡ n → n < m
     → (d : Doing) → o ≡ Some d → (d.note ≡ n) × (d.note < m)
 note_here o e n m h is low d f = let x : e ≡ d = same_Some _ _ (sym h ∙ f) in
@@ -73,7 +73,7 @@ module _ {J : Type 0} (M : Meaning J) where
       h.within,
     )
 
-    -- what a seat does is done for the note that it keeps
+    -- what a seat does, it does for the note that it stores
     pub does_here : (f : Plan J → ℕ → Doing) → ((p : Plan J) (t : ℕ) → (f p t).note ≡ t) → (id : TableId)
         (seat : BoardSeat J) → IsSeatOf M k id seat
         → (view seat).doing ≡ Some (f (view seat).plan (note_of (view seat)))

@@ -1,4 +1,4 @@
--- No note is lost, and what lies on the board at the end is the serial run.
+-- No note is lost, and the content of the board at the end is the result of the serial run.
 use Rattle.std.proofs.lemmas.{Grind.common_steps, Bool.cases_Bool, Bool.cases_eq, Bool.and_right, List.length-map}
 use Rattle.std.proofs.Common.{◌≡◌, ◌≢◌, ℕ, zero, suc, ◌+◌, ◌-◌, ◌<◌, ◌≤◌, ◌⊎◌, ⊎_elim, pos, List, [], ◌∷◌, ◌++◌, map}
 use Rattle.std.proofs.Common.{length, get_or, take, drop, replicate, true, false, Some, None, refl, sym, ap, ◌∙◌, arith}
@@ -24,7 +24,7 @@ use Rattle.cs_board.proofs.Lists.{total_le, total_two, total_none, total_only}
 use Rattle.cs_board.proofs.{Opening.count_none, AllWords.get_status, Stores.quiet}
 use mathlib.Core.Option as maybe
 
--- the slots by what is found in each: a job for each of these, and no other
+-- the list of slots from the content of each: a job for each of these, and nothing in further ones
 pub row_of : {J : Type 0} (hs : List (maybe.Option (Berth J))) (js : List J) (n : ℕ) → length hs ≡ length js + n
     → ((i : ℕ) (x : J) → slice_get js i ≡ Some x → get_elem? hs i ≡ some (some (Full x)))
     → ((i : ℕ) → length js ≤ i → i < length hs → get_elem? hs i ≡ some (some Vacant))
@@ -85,7 +85,7 @@ module _ {J : Type 0} (M : Meaning J) (F : Frames M) (k : Plan J) (plan : IsPlan
   still_or_done : (t : ℕ) → (at p.status t ≡ 0) ⊎ (at p.status t ≡ 3)
   still_or_done t = grind (arith, common_steps, cases_eq, none_does, none_owes)
 
-  -- a Waiting note would watch an edge from an earlier one that isn't Done
+  -- a Waiting note would watch an edge from an earlier note that isn't Done
   all_done : (n t : ℕ) → t < n → t < k.notes → at p.status t ≡ 3
   all_done zero t l low = absurd (omega arith)
   all_done (suc n) t l low = ⊎_elim
@@ -145,13 +145,13 @@ module _ {J : Type 0} (M : Meaning J) (F : Frames M) (k : Plan J) (plan : IsPlan
           f.slots.home t j at_ (λ two. omega (arith, two, d)) ∙ ap (λ n. some (some (Full (job_if M k (n == 3) t j)))) d
           ∙ ap (λ o. some (some (Full o))) (same_Some _ _ z)
 
-  -- each note stands once among those of the last seat
+  -- each note occurs once among the last seat's notes
   pub all_mine : AllMine k v
   all_mine t low = sym (total_only (has_done t) vs id v here
       (λ j w n at_. ap (has_done t) ((f.sane j w at_).over (spent j w n at_))))
       ∙ f.tallied.having t ∙ ap (λ x. same x 3) (done t low)
 
-  -- a turn word that no note of the cycle writes
+  -- a turn word of a resource that no note of the cycle writes is 0
   pub unturned : (r : ℕ) → r < area_count k → ((t : ℕ) → listed (places_written M k t) r ≡ false) → at p.turns r ≡ 0
   unturned r low none = f.turned r low ∙ omega (
     arith,
@@ -161,7 +161,7 @@ module _ {J : Type 0} (M : Meaning J) (F : Frames M) (k : Plan J) (plan : IsPlan
     total_none (turned_on M k r) vs (λ j w a. ap (turned_in M k r) (idle j w a).0),
   )
 
--- the cells are the first of the words
+-- the cells are the first of the words, after word 0
 pub row_cells : {J : Type 0} (k : Plan J) (w : Words) → IsSized k w → cells_in k (all_words w) ≡ w.cells
 row_cells k w s = ap (λ n. take n (drop 1 (all_words w))) (sym s.cells)
     ∙ take-append_seam w.cells (w.turns ++ (w.status ++ (w.own ++ (w.watch ++ w.spare))))

@@ -1,4 +1,4 @@
--- Notes that share a resource: what the plan and the words say of them.
+-- Notes that share a resource: what the plan and the words say about them.
 use Rattle.std.proofs.lemmas.{Grind.common_steps, Option.slice_get_within, Option.get_or_from_slice_get}
 use Rattle.std.proofs.Common.{◌≡◌, ◌≢◌, ℕ, zero, suc, ◌<◌, inl, inr, ⊎_elim, List, [], ◌∷◌, map, length, get_or, true}
 use Rattle.std.proofs.Common.{Option, Some, None, refl, sym, ap, subst, arith, slice_get, eq-eqb, eqb-true, ◌==◌}
@@ -27,7 +27,7 @@ contains_listed (y ∷ ys) (suc i) x l e = or_right (y == x) (listed ys x) (cont
 pub listed_of : (xs : List ℕ) (x : ℕ) → Contains xs x → listed xs x ≡ true
 listed_of xs x c = contains_listed xs c.0 x c.1 c.2
 
--- an address that two lists of places cover lies in a place of both
+-- an address that two lists of resources cover lies in a resource of both
 shared : (areas : List Area) (P Q : List ℕ) (a : ℕ) → IsLaid areas → covers areas P a ≡ true → covers areas Q a ≡ true
     → (r : ℕ) × Contains P r × Contains Q r
 shared areas P Q a laid p q = grind (arith, common_steps, contains_at, covered_place, one_place)
@@ -66,7 +66,7 @@ module _ {J : Type 0} (M : Meaning J) where
     length-feet [] = refl
     length-feet (x ∷ js) = ap suc (length-feet js)
 
-    -- a writer and a user of one place conflict
+    -- a writer and a user of one resource conflict
     pub writer_user : (p t r : ℕ) → p < t → Contains (places_written M k p) r → Contains (places_used M k t) r
         → Conflict (feet M k) p t
     writer_user p t r low w u =
@@ -84,7 +84,7 @@ module _ {J : Type 0} (M : Meaning J) where
         let w = writes_from (slice_get k.jobs t) r c in
         subst (λ o. Contains (uses_of M o) r) (sym w.1) ((plan.footprints t w.0 w.1).written r w.2)
 
-    -- a footprint's places: ascending, and the layout's
+    -- a footprint's resources are ascending, and the layout has them
     pub written_rises : (t : ℕ) → IsStrictlyIncreasing (places_written M k t)
     written_rises t = go (slice_get k.jobs t) refl
       where
@@ -98,7 +98,7 @@ module _ {J : Type 0} (M : Meaning J) where
     pub written_within : (t r : ℕ) → Contains (places_written M k t) r → t < k.notes
     written_within t r c = omega (arith, (writes_foot t r c).0, plan.jobs)
 
-    -- what is written is used, cell by cell
+    -- a cell that may be written counts as used
     covers_more : (areas : List Area) (P Q : List ℕ) (a : ℕ) → ((r : ℕ) → Contains P r → listed Q r ≡ true)
         → covers areas P a ≡ true → covers areas Q a ≡ true
     covers_more areas P Q a sub h =
@@ -122,7 +122,7 @@ module _ {J : Type 0} (M : Meaning J) where
         (λ r c. listed_of (places_used M k t) r (written_used t r c)) w)
         (or_cases (covers k.areas (places_used M k t) a) (covers k.areas (places_written M k t) a) h)
 
-    -- the same of cells
+    -- a writer and a user of one cell conflict
     pub writer_user_at : (p t a : ℕ) → p < t → writes_at M k p a ≡ true → uses_at M k t a ≡ true
         → Conflict (feet M k) p t
     writer_user_at p t a low w u = let s =
@@ -159,7 +159,8 @@ module _ {J : Type 0} (M : Meaning J) where
       pub past : (p t : ℕ) → Conflict (feet M k) p t → at st t ≢ 0 → at st p ≡ 3
       past p t c n = reached p t (plan.fit.all p t c) n
 
-      -- two notes of which one writes a place or a cell that the other uses: both begun and not Done, they are one
+      -- of two notes, one writes a resource or a cell that the other uses: if both have begun and aren't
+      -- Done, they are the same note
       both : (p t : ℕ) → (p < t → Conflict (feet M k) p t) → (t < p → Conflict (feet M k) t p) → at st p ≢ 0
           → at st p ≢ 3 → at st t ≢ 0 → at st t ≢ 3 → p ≡ t
       both p t f b p0 p3 t0 t3 = grind (arith, common_steps, cases_order, past)

@@ -1,4 +1,4 @@
--- Counting tests below a number, and the places of an ascending list one by one.
+-- Counting tests below a number, and the elements of an ascending list one by one.
 use Rattle.std.proofs.lemmas.{Grind.common_steps, Bool.cases_eq, Bool.or_right}
 use Rattle.std.proofs.Common.{◌≡◌, ◌≢◌, ℕ, zero, suc, ◌+◌, ◌-◌, ◌<◌, ◌≤◌, ⊎_elim, List, [], ◌∷◌, length, take, Bool}
 use Rattle.std.proofs.Common.{true, false, ◌==◌, ◌||◌, refl, sym, ap, ◌∙◌, arith, eq-eqb, ne_eqb}
@@ -37,12 +37,12 @@ pub count_le : (P : ℕ → Bool) (n : ℕ) → count_below P n ≤ n
 count_le P zero = omega arith
 count_le P (suc n) = grind (arith, common_steps, count_le P n)
 
--- an ascending list rises from each place to each later one
+-- an element of an ascending list is less than each later one
 pub rises : (xs : List ℕ) → IsStrictlyIncreasing xs → (i d : ℕ) → i + suc d < length xs → at xs i < at xs (i + suc d)
 rises xs h i zero l = let a : at xs i < at xs (i + 1) = h i (omega arith) in a
 rises xs h i (suc d) l = grind (arith, common_steps, rises xs h i d (omega arith))
 
--- the first i + 1 places list one more than the first i
+-- the first i + 1 elements contain one number more than the first i
 pub listed_more : (xs : List ℕ) (i r : ℕ) → i < length xs → at xs i ≢ r
     → listed (take (i + 1) xs) r ≡ listed (take i xs) r
 listed_more xs i r l n = ap (λ j. listed (take j xs) r) (plus i) ∙ go xs i l n
@@ -82,7 +82,7 @@ listed_fresh xs h i l = go i (at xs i) (omega arith) (λ j m. differ j m)
         ap (λ j. listed (take j xs) r) e ∙ listed_more xs n r (omega arith) (d n (omega arith))
         ∙ go n r (omega arith) (λ j m. d j (omega arith))
 
--- an ascending list of numbers below n has at most n
+-- an ascending list of numbers below n has at most n elements
 pub increasing_few : (xs : List ℕ) (n : ℕ) → IsStrictlyIncreasing xs → ((i : ℕ) → i < length xs → at xs i < n)
     → length xs ≤ n
 increasing_few xs n h below = go (length xs) refl

@@ -1,4 +1,4 @@
--- Who does a note: no two views do one, and a note that a view does is InProgress.
+-- Who does a note: no two views do the same one, and a note that a view does is InProgress.
 use Rattle.std.proofs.lemmas.Grind.{common_steps}
 use Rattle.std.proofs.Common.{◌≡◌, ◌≢◌, ℕ, ◌+◌, ◌<◌, ◌≤◌, ⊎_elim, List, length, set, Some, refl, sym, ap, ◌∙◌, arith}
 use Rattle.std.proofs.Common.{◌==◌}
@@ -26,7 +26,7 @@ module _ {J : Type 0} (k : Plan J) (st : List ℕ) (vs : List (View J)) (D : Doe
       total_two (does_note e.note) vs i j x y n a b in
       ⊎_elim (λ h. omega (arith, h.1, D e.note)) (λ h. omega (arith, h.1, D e.note)) (same_cases (at st e.note) 2)
 
--- a status that is set to another number on the same side of Done
+-- the status after one was set to another on the same side of Done
 pub alike : (st : List ℕ) (t x a : ℕ) → t < length st → at st t ≡ a → (x == 3) ≡ (a == 3) → (u : ℕ)
     → (at (set st t x) u == 3) ≡ (at st u == 3)
 alike st t x a low is side u = grind (arith, common_steps, put_cases)

@@ -1,4 +1,4 @@
--- A note is Done, and its watchers move on: these steps keep the facts.
+-- A note becomes Done, and its watchers move on: these steps preserve the facts.
 use Rattle.std.proofs.lemmas.{Grind.common_steps, Bool.cases_eq, Bool.cases_lt}
 use Rattle.std.proofs.Common.{◌≡◌, ◌≢◌, ℕ, ◌+◌, ◌<◌, ◌≤◌, ◌⊎◌, inl, inr, ⊎_elim, List, length, set, Bool, true, false}
 use Rattle.std.proofs.Common.{cond, Some, None, refl, sym, ap, ◌∙◌, subst, arith, ◌==◌, ◌&&◌, nat_le, slice_get, eq-eqb}
@@ -30,7 +30,7 @@ one_and false = refl
 module _ {J : Type 0} (M : Meaning J) (F : Frames M) (k : Plan J) (plan : IsPlan M k) (p : Words) (sized : IsSized k p)
     (hs : List (maybe.Option (Berth J))) (vs : List (View J)) (id : ℕ) (v : View J) (here : get_elem? vs id ≡ some v)
     (f : Facts M k p hs vs) where
-  -- a view that has a spot does no note
+  -- a view that closes or moves a note does no note
   pub not_doing : (s : Spot) → (v.closing ≡ Some s) ⊎ (v.moving ≡ Some s) → v.doing ≡ None
   not_doing s h = grind (arith, common_steps)
 
@@ -38,7 +38,7 @@ module _ {J : Type 0} (M : Meaning J) (F : Frames M) (k : Plan J) (plan : IsPlan
   free_to_close d doing = ⊎_elim (λ none. absurd (let e : Some d ≡ None = sym doing ∙ none in cc)) (λ both. both)
       ((f.sane id v here).one_duty)
 
-  -- the note has run, its turns are made and its job is home: it is Done
+  -- the note has run, its turns are made and its job is back in its slot: it becomes Done
   pub facts_ended : (d : Doing) → v.plan ≡ k → v.doing ≡ Some d → d.held ≡ false
       → d.phase ≡ 1 + length (places_written M k d.note) → v.spent ≡ false
       → Facts M k (record p { status = set p.status d.note 3 }) hs (set vs id (ended v d.note))
@@ -92,7 +92,7 @@ module _ {J : Type 0} (M : Meaning J) (F : Frames M) (k : Plan J) (plan : IsPlan
         turned = turned_done M k st vs id v w here p.turns d doing refl running near within phase f.turned;
       }
 
-  -- a step that changes one watch word, and what the view closes or moves
+  -- a step that changes only one watch word, and what the view closes or moves
   pub facts_aside : (w : View J) (wt' : List ℕ) → v.doing ≡ None → w.doing ≡ None → w.owes ≡ v.owes → w.found ≡ v.found
       → w.mine ≡ v.mine
       → is_first w ≡ is_first v → ((x : ℕ) → numbered x w ≡ numbered x v) → w.out ≡ v.out → w.made ≡ v.made
@@ -119,7 +119,7 @@ module _ {J : Type 0} (M : Meaning J) (F : Frames M) (k : Plan J) (plan : IsPlan
         (λ r. ap (turned_in M k r) (idle' ∙ sym idle)) f.turned;
   }
 
-  -- a Waiting note whose edges a step leaves, and which nobody begins or ends to move
+  -- a Waiting note whose edges a step doesn't change, and which no view begins or ends to move
   pub waits_moved : (w : View J) (wt' : List ℕ) (u : ℕ) → ((e q : ℕ) → Edge k.edges e q u → at wt' e ≡ at p.watch e)
       → moves u w ≡ moves u v → ((i : ℕ) → moves_at u i w ≡ moves_at u i v)
       → Waits k p.watch vs u → Waits k wt' (set vs id w) u
@@ -147,7 +147,7 @@ module _ {J : Type 0} (M : Meaning J) (F : Frames M) (k : Plan J) (plan : IsPlan
   pub edge_below : (e q t : ℕ) → Edge k.edges e q t → e < length p.watch
   edge_below e q t edge = omega (arith, slice_get_within k.edges e (q, t) edge, sized.watch)
 
-  -- what is known of the note that a view moves: it waits at the view's place
+  -- what is known about the note that a view moves: it waits at the view's edge
   module _ (t i : ℕ) (moving : v.moving ≡ Some (record { note = t; from = i })) where
     mine : moves t v ≡ 1
     mine = ap (spot_on t) moving ∙ on_here t i
@@ -171,7 +171,7 @@ module _ {J : Type 0} (M : Meaning J) (F : Frames M) (k : Plan J) (plan : IsPlan
     pub others_moves : (u j : ℕ) → u ≢ t → (moves u v ≡ 0) × (moves_at u j v ≡ 0)
     others_moves u j n = grind (arith, common_steps, at_else, on_else)
 
-  -- edge e of the note that is being closed is Closed
+  -- edge e of the note that is being closed becomes Closed
   pub facts_shut : (e q t i : ℕ) → Edge k.edges e q t → v.plan ≡ k → v.closing ≡ Some (record { note = q; from = i })
       → v.moving ≡ None → i ≤ e → ((g u : ℕ) → Edge k.edges g q u → i ≤ g → e ≤ g) → v.spent ≡ false
       → Facts M k (record p { watch = set p.watch e 2 }) hs (set vs id (shut v e q t (at p.watch e)))
@@ -207,7 +207,7 @@ module _ {J : Type 0} (M : Meaning J) (F : Frames M) (k : Plan J) (plan : IsPlan
           )))
           (same_cases (at p.status q) 3)
 
-      -- the watcher that is found is Waiting
+      -- the watcher that is found is a Waiting note
       watcher_waits : at p.watch e ≡ 1 → at p.status t ≡ 0
       watcher_waits c = ⊎_elim (λ z. z) (λ n. absurd (omega (arith, f.gates.closed e q t edge n)))
           (cases_eq (at p.status t) 0)
@@ -224,7 +224,7 @@ module _ {J : Type 0} (M : Meaning J) (F : Frames M) (k : Plan J) (plan : IsPlan
       lost_move : at p.watch e ≢ 1 → w.moving ≡ None
       lost_move n = ap (λ b. cond b (Some (record { note = t; from = e + 1 })) None) (ne_eqb (at p.watch e) 1 n)
 
-      -- unless it is the watcher that was found, a note is moved by no more views than before
+      -- the same number of views move a note as before, unless it is the watcher that was found
       same_moves : (u : ℕ) → (u ≡ t → at p.watch e ≢ 1)
           → (moves u w ≡ moves u v) × ((j : ℕ) → moves_at u j w ≡ moves_at u j v)
       same_moves u n = ⊎_elim

@@ -8,7 +8,7 @@ use Rattle.cs_board.specs.{Plans.leads_out, Views.closing_from, declared.view.Pl
 use Rattle.cs_board.specs.{Views.shut, declared.view.View.View}
 use Rattle.cs_board.proofs.Spots.{leads_out_here}
 
--- how many edges are ahead
+-- the number of edges still to be closed
 abbrev pub edges_left : ℕ → Option ℕ → ℕ
 edges_left n None = 0
 edges_left n (Some e) = n - e

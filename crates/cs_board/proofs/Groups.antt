@@ -1,4 +1,4 @@
--- What each group of facts asks of a step that changes one view, or a status, or a watch word.
+-- What each group of facts requires of a step that changes one view, or a status, or a watch word.
 use Rattle.std.proofs.lemmas.Grind.{common_steps}
 use Rattle.std.proofs.Common.{◌≡◌, ◌≢◌, ℕ, ◌+◌, ◌<◌, ◌≤◌, ◌⊎◌, inl, inr, ⊎_elim, List, length, set, false, None, sym}
 use Rattle.std.proofs.Common.{ap, ◌∙◌, subst, arith}
@@ -29,7 +29,7 @@ module _ {J : Type 0} (k : Plan J) where
         (λ h. g.done f p u edge (sym h.1 ∙ c)) (put_cases wt e x f low);
   }
 
--- a view that takes part stays sane where its duty and what it owes are
+-- a view that takes part stays sane if what it does and what it owes are valid
 pub sane_live : {J : Type 0} (k : Plan J) (v w : View J) → v.spent ≡ false → w.spent ≡ v.spent → w.plan ≡ v.plan
     → w.first ≡ v.first → w.out ≡ v.out → w.rest ≡ v.rest
     → (w.doing ≡ None) ⊎ ((w.closing ≡ None) × (w.moving ≡ None)) → ((t : ℕ) → 0 < owed t w → t < k.notes) → IsSane k v
@@ -86,7 +86,7 @@ module _ {J : Type 0} (k : Plan J) (vs : List (View J)) (id : ℕ) (v w : View J
     moving_in = moving;
   }
 
-  -- a step that moves and closes nothing, and after which the same notes are Waiting, and the same are Done
+  -- a step that moves and closes nothing, and after which the same notes are Waiting and the same are Done
   pub watches_still : (st st' wt : List ℕ) → w.closing ≡ v.closing → w.moving ≡ v.moving
       → ((u : ℕ) → same (at st u) 3 ≡ same (at st' u) 3) → ((u : ℕ) → at st' u ≡ 3 → at st u ≡ 3)
       → ((u : ℕ) → at st' u ≡ 0 → at st u ≡ 0) → ((u : ℕ) → at st' u ≢ 0 → at st u ≢ 0)

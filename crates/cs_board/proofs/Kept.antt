@@ -1,4 +1,4 @@
--- Each kind of step of a cycle keeps the rule of a whole performance.
+-- Each kind of step of a cycle preserves the rule of a complete performance.
 use Rattle.std.proofs.Common.{◌≡◌, ℕ, ◌+◌, ◌<◌, ◌≤◌, [], ◌∷◌, length, true, false, Some, None, slice_get, nat_le, eqb}
 use mathlib.Core.Option.{none}
 use prog.Atomic.{either}

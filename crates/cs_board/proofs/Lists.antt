@@ -1,4 +1,4 @@
--- Plain lists: one element changed, what elements weigh together, how often a number stands in a list.
+-- Plain lists: one element changed, the sum of all elements' weights, how often a number occurs in a list.
 use Rattle.std.proofs.lemmas.{Grind.common_steps, Bool.cases_eq, List.get_or-set_same, List.get_or-set_other}
 use Rattle.std.proofs.Common.{◌≡◌, ◌≢◌, ℕ, zero, suc, ◌+◌, ◌*◌, ◌<◌, ◌≤◌, ◌⊎◌, inl, inr, ⊎_elim, List, [], ◌∷◌, ◌++◌}
 use Rattle.std.proofs.Common.{length, set, refl, sym, ap, arith, eq-eqb, ne_eqb, zero-add}
@@ -20,7 +20,7 @@ pub put_cases : (xs : List ℕ) (i x u : ℕ) → i < length xs
     → ((u ≡ i) × (at (set xs i x) u ≡ x)) ⊎ ((u ≢ i) × (at (set xs i x) u ≡ at xs u))
 put_cases xs i x u low = grind (arith, common_steps, cases_eq, get_or-set_other, get_or-set_same)
 
--- how often a number stands at a place before and after one was set there
+-- how often a number occurs at an index before and after one was set there
 pub put_counts : (xs : List ℕ) (i x a n u : ℕ) → i < length xs → at xs i ≡ a
     → same (at (set xs i x) u) n + same i u * same a n ≡ same (at xs u) n + same i u * same x n
 put_counts xs i x a n u low is = grind (arith, common_steps, put_cases, same_no, same_yes)
@@ -76,7 +76,7 @@ module _ {A : Type 0} where
   total-snoc g l a = let h : total g (l ++ a ∷ []) ≡ total g l + total g (a ∷ []) =
       total-append g l (a ∷ []) in omega arith
 
-  -- one element weighs no more than all, and two no more than all
+  -- one element weighs no more than all together, and neither do two
   pub total_le : (g : A → ℕ) (l : List A) (j : ℕ) (v : A) → get_elem? l j ≡ some v → g v ≤ total g l
   total_le g [] j v e = absurd (some-ne-none v (sym e))
   total_le g (x ∷ xs) zero v e = let h : g x ≡ g v = ap g (some-injective x v e) in omega arith
@@ -93,7 +93,7 @@ module _ {A : Type 0} where
   total_two g (x ∷ xs) (suc i) (suc j) v w n e f = let h : g v + g w ≤ total g xs =
       total_two g xs i j v w (λ s. n (ap suc s)) e f in omega arith
 
-  -- where f is no more than g anywhere and both weigh the same together, they are one everywhere
+  -- if f is at most g everywhere and both weigh the same together, they are equal everywhere
   pub total_more : (f g : A → ℕ) (l : List A) → ((x : A) → f x ≤ g x) → total f l ≤ total g l
   total_more f g [] h = omega arith
   total_more f g (x ∷ xs) h = let a : f x ≤ g x = h x in let b : total f xs ≤ total g xs =
@@ -107,7 +107,7 @@ module _ {A : Type 0} where
       let a : f x ≤ g x = h x in let b : total f xs ≤ total g xs = total_more f g xs h in
       total_tight f g xs j v h (omega arith) e
 
-  -- what f lacks of g at one element it lacks in all
+  -- if f is less than g at one element, the sum of f is less by as much
   pub total_gap : (f g : A → ℕ) (l : List A) (j : ℕ) (v : A) → ((x : A) → f x ≤ g x) → get_elem? l j ≡ some v
       → total f l + g v ≤ total g l + f v
   total_gap f g [] j v h e = absurd (some-ne-none v (sym e))
@@ -115,13 +115,13 @@ module _ {A : Type 0} where
   total_gap f g (x ∷ xs) (suc j) v h e =
       let a : f x ≤ g x = h x in let b : total f xs + g v ≤ total g xs + f v = total_gap f g xs j v h e in omega arith
 
-  -- where each weighs nothing, so do all
+  -- if each element weighs nothing, all together weigh nothing
   pub total_none : (f : A → ℕ) (l : List A) → ((j : ℕ) (v : A) → get_elem? l j ≡ some v → f v ≡ 0) → total f l ≡ 0
   total_none f [] h = refl
   total_none f (x ∷ xs) h = let a : f x ≡ 0 = h 0 x refl in let b : total f xs ≡ 0 =
       total_none f xs (λ j. h (suc j)) in omega arith
 
-  -- where none but one weighs anything, all weigh what it does
+  -- if only one element weighs anything, all together weigh as much as it
   pub total_only : (f : A → ℕ) (l : List A) (i : ℕ) (v : A) → get_elem? l i ≡ some v
       → ((j : ℕ) (w : A) → j ≢ i → get_elem? l j ≡ some w → f w ≡ 0) → total f l ≡ f v
   total_only f [] i v e h = absurd (some-ne-none v (sym e))
@@ -131,13 +131,6 @@ module _ {A : Type 0} where
   total_only f (x ∷ xs) (suc i) v e h =
       let a : f x ≡ 0 = h 0 x (λ z. omega arith) refl in
       let b : total f xs ≡ f v = total_only f xs i v e (λ j w n s. h (suc j) w (λ z. n (omega arith)) s) in omega arith
-
-  -- where something weighs, one does
-  pub total_some : (f : A → ℕ) (l : List A) → 0 < total f l → (j : ℕ) × (v : A) × (get_elem? l j ≡ some v) × (0 < f v)
-  total_some f [] h = absurd (omega arith)
-  total_some f (x ∷ xs) h = ⊎_elim
-      (λ z. let r = total_some f xs (omega arith) in (suc r.0, r.1, r.2, r.3))
-      (λ n. (0, x, refl, omega arith)) (cases_eq (f x) 0)
 
 pub times-snoc : (x : ℕ) (l : List ℕ) (y : ℕ) → times x (l ++ y ∷ []) ≡ times x l + same y x
 times-snoc x l y = total-snoc (λ z. same z x) l y
@@ -153,13 +146,13 @@ times-without_same t (y ∷ ys) = grind (arith, common_steps, cases_eq, eq-eqb, 
 pub times-without_le : (x t : ℕ) (l : List ℕ) → times x (without t l) ≤ times x l
 times-without_le x t l = grind (arith, common_steps, cases_eq, times-without, times-without_same)
 
--- a list in which nothing stands is empty
+-- a list in which no number occurs is empty
 pub empty_from_times : (l : List ℕ) → ((x : ℕ) → times x l ≡ 0) → l ≡ []
 empty_from_times [] h = refl
 empty_from_times (y ∷ ys) h =
     absurd (let a : times y (y ∷ ys) ≡ 0 = h y in let b : same y y ≡ 1 = same_yes y y refl in omega arith)
 
--- a number other than 0 stands within the list
+-- an index with a number other than 0 is within the list
 pub within_of : (xs : List ℕ) (i : ℕ) → at xs i ≢ 0 → i < length xs
 within_of [] i n = absurd (n refl)
 within_of (x ∷ xs) zero n = omega arith

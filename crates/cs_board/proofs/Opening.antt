@@ -1,4 +1,4 @@
--- The board at the opening keeps the rule.
+-- The board keeps the rule when a cycle begins.
 use Rattle.std.proofs.lemmas.{Grind.common_steps, Option.slice_get_within, Option.get_or_from_slice_get}
 use Rattle.std.proofs.Common.{◌≡◌, ◌≢◌, ℕ, zero, suc, ◌+◌, ◌<◌, ◌≤◌, ◌⊎◌, inl, ⊎_elim, List, [], ◌∷◌, length, take}
 use Rattle.std.proofs.Common.{Bool, true, false, cond, Some, refl, sym, ap, ◌∙◌, arith, ◌==◌, ◌||◌, slice_get, eq-eqb}
@@ -18,7 +18,7 @@ use Rattle.cs_board.specs.Views.{roots_below, opening_view, spent_view}
 use Rattle.cs_board.proofs.Lists.{same_yes, same_no, total_only}
 use mathlib.Core.Option as maybe
 
--- a list of the values below a number
+-- a list of a function's values below a number
 pub length-each_below : (f : ℕ → ℕ) (n : ℕ) → length (each_below f n) ≡ n
 length-each_below f zero = refl
 length-each_below f (suc n) = let h : length (each_below f n) ≡ n =
@@ -62,7 +62,7 @@ first_edge (x ∷ es) t h = ⊎_elim
     first_edge es t (ap (λ z. z || leads_in es t) (sym b)
     ∙ h) in (suc r.0, r.1, r.2, ap (λ z. z || leads_in (take r.0 es) t) b ∙ r.3)) (cases_Bool (x.1 == t))
 
--- a note stands among those that wait for none exactly where no edge leads to it
+-- a note is among those that wait for none if and only if no edge leads to it
 root_in : (edges : List (ℕ × ℕ)) (n t : ℕ) → t < n → leads_in edges t ≡ false → 0 < times t (roots_below edges n)
 root_in edges zero t l h = absurd (omega arith)
 root_in edges (suc n) t l h = ⊎_elim
@@ -196,6 +196,6 @@ watch_first edges e q t at_ none = ⊎_elim
     (sym b ∙ ap (λ z. leads_in (take e edges) z.1) (sym (get_or_from_slice_get edges e (q, t) (0, 0) at_))))
     (cases_Bool (leads_in (take e edges) t))
 
--- a note among those that wait for none is one of the cycle's
+-- a note among those that wait for none belongs to the cycle
 pub roots_within : (edges : List (ℕ × ℕ)) (n t : ℕ) → 0 < times t (roots_below edges n) → t < n
 roots_within edges n t h = grind (arith, common_steps, cases_lt, root_out)

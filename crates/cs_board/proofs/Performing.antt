@@ -1,4 +1,4 @@
--- A view whose image alone changed, and the note that has run.
+-- A view of which only the image changed, and the note that has run.
 use Rattle.std.proofs.lemmas.{Grind.common_steps, Option.same_Some}
 use Rattle.std.proofs.Common.{◌≡◌, ℕ, suc, ◌+◌, Option, Some, sym, ap, ◌∙◌, subst, arith, slice_get, true, ◌||◌}
 use Rattle.atomic_table.specs.declared.shared.Seat.{Seat}
@@ -18,11 +18,11 @@ module _ {J : Type 0} where
       → (deed w).image ≡ X → w ≡ does v (record d { image = X })
   reimage v w d X doing h image = grind (arith, common_steps, same_Some, same_but)
 
-  -- a view that knows the board's plan knows it whatever its image is
+  -- a view that knows the board's plan knows it with any image
   pub view_bare : (k : Plan J) (v : View J) → IsViewOf k v → IsViewOf k (imageless v)
   view_bare k v h = record { plan = h.plan; live = h.live; owes_in = h.owes_in; playing = h.playing }
 
--- a seat that does a note is at work, whatever its image is
+-- a seat that does a note is at work, with any image
 pub works_at : {J : Type 0} (M : Meaning J) (board : Board J) (sitting : Seat (Berth J) (View J)) (name : ℕ) (d : Doing)
     → IsSittingOf M board sitting → sitting.me.0.doing ≡ Some d → IsAtWork M (frame_of board sitting name)
 works_at M board sitting name d h doing = grind (arith, common_steps, view_bare)

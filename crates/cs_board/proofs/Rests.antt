@@ -1,5 +1,5 @@
--- The rule of a whole performance: the steps of a cycle keep it, and so do those of a board that rests, the beginning
--- of a cycle and its end.
+-- The rule of a complete performance: the steps of a cycle preserve it, and so do the steps of a board that
+-- rests, the beginning of a cycle and its end.
 use Rattle.std.proofs.lemmas.{Grind.common_steps, Bool.cases_eq, Option.same_Some}
 use Rattle.std.proofs.Common.{◌≡◌, ◌≢◌, ℕ, zero, suc, ◌+◌, ◌<◌, ◌≤◌, inl, inr, ⊎_elim, List, [], ◌∷◌, map, length, set}
 use Rattle.std.proofs.Common.{replicate, false, Option, Some, None, refl, sym, ap, ◌∙◌, subst, arith, slice_get}
@@ -28,7 +28,7 @@ within_get (x ∷ xs) zero a e = omega arith
 within_get (x ∷ xs) (suc i) a e = let h : i < length xs = within_get xs i a e in omega arith
 
 module _ {J : Type 0} where
-  -- what is known of a slot lies there
+  -- what is known about a slot's content is its content
   home_at : (hs : List (maybe.Option (Berth J))) (t : ℕ) (b : Berth J) → slice_get (map home_in hs) t ≡ Some (Some b)
       → get_elem? hs t ≡ some (some b)
   home_at [] t b e = absurd (cc)
@@ -63,7 +63,7 @@ module _ {J : Type 0} where
 module _ {J : Type 0} (M : Meaning J) where
   module _ (s : State (Berth J) (View J)) (id : ℕ) (v : View J) (here : get_elem? s.views id ≡ some v)
       (live : v.spent ≡ false) where
-    -- a board whose view plays is being played
+    -- if a view isn't at rest, the board is being played
     playing : v.rest ≡ None → Always M s → (k : Plan J) × Holds M k s
     playing rest a = grind (arith, common_steps, cases_eq, some-injective, spent)
 
@@ -71,7 +71,7 @@ module _ {J : Type 0} (M : Meaning J) where
     plays k rest plan a = let h = playing rest a in
         subst (λ z. Holds M z s) (sym ((h.1.facts.sane id v here).plan live) ∙ plan) h.1
 
-    -- a board whose view rests is at rest, and the view knows it
+    -- if a view is at rest, so is the board, and the view knows it
     rests : (w : Still J) → v.rest ≡ Some w → Always M s
         → (w ≡ stillness s) × ((j : ℕ) (x : View J) → j ≢ id → get_elem? s.views j ≡ some x → x ≡ spent_view)
     rests w rest a = grind (arith, common_steps, cases_eq, playing, same_Some, some-injective, spent)
@@ -188,7 +188,7 @@ module _ {J : Type 0} (M : Meaning J) where
         rest_of [] = []
         rest_of (x ∷ xs) = xs
 
-    -- a cycle begins beside any number of views that are spent
+    -- a cycle begins, while all other views are spent
     pub begins_cycle : (b : Berth J) (graph : Dependencies) (k : Plan J) (ws spare : List ℕ) (c : ℕ)
         → graph_told b ≡ Some graph → plan_laid m.0.plan.areas w graph ≡ k → IsPlan M k → values ws ≡ k.cells
         → length spare ≡ k.spare → w.words ≡ all_words (opening_words k ws spare) → w.homes ≡ slot_row 0 k.jobs c

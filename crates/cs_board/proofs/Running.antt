@@ -1,4 +1,4 @@
--- The steps of a note that runs: its job goes out, cells are set, turns are made, and the job comes home.
+-- The steps of a note that runs: its job goes out, cells are set, turns are made, and the job goes back.
 use Rattle.std.proofs.Common.{◌≡◌, ◌≢◌, ℕ, zero, suc, ◌+◌, ◌-◌, ◌<◌, ◌≤◌, ⊎_elim, List, [], ◌∷◌, length, get_or, set}
 use Rattle.std.proofs.Common.{take, Bool, true, false, Option, Some, None, refl, sym, ap, ◌∙◌, subst, arith, ◌==◌, ◌&&◌}
 use Rattle.std.proofs.Common.{nat_le, slice_get, slice_index, slice_set, eq-eqb, ne_eqb, le-leb}
@@ -45,7 +45,7 @@ module _ {J : Type 0} (M : Meaning J) (k : Plan J) (F : Frames M) (n id : ℕ) (
     picture : Pictured M k h.parts.cells d
     picture = h.facts.stored.images id m.0 d here doing
 
-    -- a step of the note that leaves its note, phase and image: only its job moves
+    -- a step that keeps the note, its phase and its image: only its job moves
     job_moved : (b : Bool) (i : ℕ) (hs : List (maybe.Option (Berth J))) → length hs ≡ length s.homes
         → ((j : ℕ) → k.notes ≤ j → get_elem? hs j ≡ get_elem? s.homes j)
         → Slots M k h.parts.status hs (set s.views id (does m.0 (record d { held = b }))) → Holds M k (record {
@@ -145,7 +145,7 @@ module _ {J : Type 0} (M : Meaning J) (k : Plan J) (F : Frames M) (n id : ℕ) (
               ∙ ap (λ z. (does m.0 (set_image e z (signed x)), m.1)) same_a,
         )
 
-    -- the own turn: the note has run
+    -- the note's own turn, after it has run
     pub turns_own : d.phase ≡ 0 → d.image ≡ before_at M k (d.note + 1)
         → Allows (Holds M k) n id m (own_at k d.note) (λ _. 1) (λ _. turned (step n (own_at k d.note) 1 0 none) m 1)
     turns_own phase ran s h deep here fits =

@@ -1,4 +1,4 @@
--- A seat is split off, or taken in: these keep the facts.
+-- A seat is split off or joined: these steps preserve the facts.
 use Rattle.std.proofs.lemmas.{Grind.common_steps, Bool.cases_Bool, Bool.cases_eq}
 use Rattle.std.proofs.Common.{◌≡◌, ◌≢◌, ℕ, ◌+◌, ◌<◌, ◌≤◌, ◌⊎◌, inl, inr, ⊎_elim, List, [], ◌∷◌, ◌++◌, set, true, false}
 use Rattle.std.proofs.Common.{not, Option, Some, None, refl, sym, ap, ◌∙◌, subst, arith, ◌==◌, ◌&&◌, slice_get}
@@ -16,7 +16,7 @@ use Rattle.cs_board.proofs.Lists.{same_yes, same_no, at_set, at_snoc, set_else, 
 use Rattle.cs_board.proofs.Lists.{total_le, total_two, total_only, times-without, times-without_same, times-without_le}
 use mathlib.Core.Option as maybe
 
--- what a view weighs by what it does, closes and moves
+-- a weight of a view, from what it does, closes and moves
 abbrev Weight : Type 0
 Weight = Option Doing → Option Spot → Option Spot → ℕ
 
@@ -28,13 +28,13 @@ module _ {J : Type 0} where
   abbrev weigh : Weight → View J → ℕ
   weigh g x = g x.doing x.closing x.moving
 
-  -- the views of a view of the table before, or one of a seat without a part
+  -- the view is one of the earlier views, or belongs to a seat that has done nothing
   abbrev Old : List (View J) → View J → Type 0
   Old vs x = ((x.doing ≡ None) × (x.found ≡ []))
       ⊎ ((i : ℕ) × (y : View J) × (get_elem? vs i ≡ some y) × (x.doing ≡ y.doing) × (x.found ≡ y.found))
 
   module _ (M : Meaning J) (k : Plan J) (p : Words) (hs : List (maybe.Option (Berth J))) (vs vs' : List (View J)) where
-    -- views that weigh what those before did
+    -- views that weigh the same as those before
     facts_alike : ((g : Weight) → g None None None ≡ 0 → total (weigh g) vs' ≡ total (weigh g) vs)
         → ((t : ℕ) → total (owed t) vs ≤ total (owed t) vs')
         → ((t : ℕ) → total (has_done t) vs' ≡ total (has_done t) vs)
@@ -92,12 +92,12 @@ module _ {J : Type 0} where
           turned = λ r low. omega (arith, f.turned r low, duty (λ d c m. turned_in M k r d) refl);
         }
 
-  -- the first view stays sane, whatever it knows of the others and of the notes that are finished
+  -- the first view stays sane, whatever it knows about other seats and about the notes that are finished
   first_sane : (k : Plan J) (v : View J) (mine out : List ℕ) (made : ℕ) → v.first ≡ true → v.spent ≡ false → IsSane k v
       → IsSane k (record v { mine = mine; out = out; made = made })
   first_sane k v mine out made first live s = grind (arith, common_steps)
 
-  -- only the first view has others out
+  -- only the first view lists other seats as split off
   module _ (k : Plan J) (vs : List (View J)) (id : ℕ) (v : View J) (here : get_elem? vs id ≡ some v)
       (first : v.first ≡ true)
       (sane : (i : ℕ) (x : View J) → get_elem? vs i ≡ some x → IsSane k x) (seats : Seats vs) where

@@ -1,4 +1,4 @@
--- The slots: a note's job is home, or out with the seat that runs it.
+-- The slots: a note's job is in its slot, or out with the seat that runs it.
 use Rattle.std.proofs.Common.{arith, ◌≡◌, ◌≢◌, ℕ, ◌<◌, ⊎_elim, List, length, set, true, false, Some, None, refl, sym}
 use Rattle.std.proofs.Common.{ap, ◌∙◌, ◌==◌, nat_le, slice_get}
 use Rattle.std.proofs.lemmas.{Grind.common_steps, Option.same_Some}
@@ -33,7 +33,7 @@ module _ {J : Type 0} (M : Meaning J) (k : Plan J) (vs : List (View J)) (id : �
         (λ z. others i x d z.0 z.1 is ∙ s.away i x d z.1 is held) (at_set vs id i w x e);
   }
 
-  -- a status moves on among Waiting, Available and InProgress, and no job moves
+  -- a status changes among Waiting, Available and InProgress, and no job moves
   pub slots_status : (st : List ℕ) (hs : Homes) (t x a : ℕ) → t < length st → at st t ≡ a → a ≢ 2 → (x == 3) ≡ (a == 3)
       → ((d : Doing) (j : J) → w.doing ≡ Some d → d.held ≡ false → slice_get k.jobs d.note ≡ Some j
       → get_elem? hs d.note ≡ some (some (Full (job_if M k (nat_le 1 d.phase) d.note j))))
@@ -41,7 +41,7 @@ module _ {J : Type 0} (M : Meaning J) (k : Plan J) (vs : List (View J)) (id : �
       → Slots M k st hs vs → Slots M k (set st t x) hs (set vs id w)
   slots_status st hs t x a low is two side mine out s = grind (arith, common_steps, put_cases, slots_step, some)
 
-  -- a note is Done, while its job is home
+  -- a note becomes Done while its job is in its slot
   pub slots_done : (st : List ℕ) (hs : Homes) (d : Doing) → d.note < length st → at st d.note ≡ 2 → v.doing ≡ Some d
       → d.held ≡ false → nat_le 1 d.phase ≡ true → w.doing ≡ None
       → Slots M k st hs vs → Slots M k (set st d.note 3) hs (set vs id w)
@@ -57,7 +57,7 @@ module _ {J : Type 0} (M : Meaning J) (k : Plan J) (vs : List (View J)) (id : �
       (λ e is_. absurd (let z : Some e ≡ None = sym is_ ∙ over in cc))
       (λ i y e n at_ is_. refl) s
 
-  -- no slot changes, and the view has the job of its note still out
+  -- no slot changes, and the view still has the job of its note
   pub slots_still : (st : List ℕ) (hs : Homes) (d d' : Doing) → v.doing ≡ Some d → d.held ≡ true → w.doing ≡ Some d'
       → d'.held ≡ true → d'.note ≡ d.note → Slots M k st hs vs → Slots M k st hs (set vs id w)
   slots_still st hs d d' was held is held' same_ s = slots_step st st hs hs s.home
@@ -67,7 +67,7 @@ module _ {J : Type 0} (M : Meaning J) (k : Plan J) (vs : List (View J)) (id : �
       ∙ s.away id v d here was held)
       (λ i y e n at_ is_. refl) s
 
-  -- the job of the note that the view does goes out, or comes home
+  -- the job of the note that the view does goes out, or back
   pub slots_moved : (st : List ℕ) (hs : Homes) (d d' : Doing) (h : maybe.Option (Berth J)) → Doers k st vs
       → v.doing ≡ Some d → w.doing ≡ Some d' → d'.note ≡ d.note → d.note < length hs
       → ((j : J) → d'.held ≡ false → slice_get k.jobs d.note ≡ Some j

@@ -1,4 +1,4 @@
--- The one seat of a board that rests knows all of it, and carries nothing.
+-- The one seat of a board that rests knows everything on it, and carries nothing.
 use Rattle.std.proofs.Common.{◌≡◌, List, [], ◌∷◌, length, true, false, Option, Some, None, refl, arith, is_some}
 use Rattle.atomic_table.specs.{Seated.TableId, declared.shared.Seat.Seat}
 use Rattle.cs_board.specs.Resting.{IsSole, still_in, known_in}

@@ -1,4 +1,4 @@
--- Where a view is among the edges of a note.
+-- The position of a view among the edges of a note.
 use Rattle.std.proofs.lemmas.{Grind.common_steps, Option.same_Some}
 use Rattle.std.proofs.Common.{◌≡◌, ◌≢◌, ℕ, zero, suc, ◌<◌, ◌≤◌, ⊎_elim, List, [], ◌∷◌, Bool, true, false, Option, Some}
 use Rattle.std.proofs.Common.{None, refl, ap, ◌∙◌, arith, ◌==◌, ◌&&◌, nat_le, slice_get, eq-eqb, ne_eqb, le-leb}
@@ -55,7 +55,7 @@ at_else p q i j n = one_left (p == q) (i == j) (ne_eqb p q n)
 pub at_apart : (p i j : ℕ) → i ≢ j → spot_at p j (Some (record { note = p; from = i })) ≡ 0
 at_apart p i j n = one_right (p == p) (i == j) (ne_eqb i j n)
 
--- a spot that is counted at a place is there
+-- a spot that is counted at an edge is at that edge
 pub at_from : (p i j : ℕ) → spot_at p j (Some (record { note = p; from = i })) ≡ 1 → i ≡ j
 at_from p i j h = ⊎_elim (λ e. e) (λ n. absurd (omega (arith, at_apart p i j n))) (cases_eq i j)
 
@@ -63,7 +63,7 @@ pub at_less : (p j : ℕ) (o : Option Spot) → spot_at p j o ≤ spot_on p o
 at_less p j None = omega arith
 at_less p j (Some s) = one_less (s.note == p) (s.from == j)
 
--- what a view closes from edge i on
+-- what a view closes, from edge i on
 pub closing_by : (es : List (ℕ × ℕ)) (e p t i : ℕ) → slice_get es e ≡ Some (p, t) → i ≤ e
     → spot_by p e (closing_from es p i) ≡ 1
 closing_by es e p t i h l = grind (arith, common_steps, by_here, leads_out_here)

@@ -1,4 +1,4 @@
--- A place after a step, and the board's numbers.
+-- A seat after a step, and the counts of the board.
 use Rattle.std.proofs.lemmas.{Grind.common_steps, Bool.cases_eq}
 use Rattle.std.proofs.Common.{◌≡◌, ℕ, zero, suc, ◌<◌, List, [], ◌∷◌, length, Bool, true, false, Some, refl, sym, ap}
 use Rattle.std.proofs.Common.{subst, arith, slice_get, eqb, eq-eqb, ne_eqb}
@@ -55,7 +55,7 @@ module _ {J : Type 0} (M : Meaning J) where
   told_tried k slots t r m n plan_is told = grind (arith, common_steps, cases_eq, eq-eqb, ne_eqb)
 
 module _ {J : Type 0} where
-  -- what a look at a status tells
+  -- what a seat knows after a look at a status
   pub told_seen : (k : Plan J) (slots t r : ℕ) (m n : Sat J) → m.0.plan ≡ k
       → looked_status (step slots (status_at k t) 0 0 none) m r n → n ≡ (seen (eqb r 1) m.0 t, m.1)
   told_seen k slots t r m n plan_is told = grind (arith, common_steps, cases_eq, eq-eqb, ne_eqb)

@@ -1,4 +1,5 @@
--- The cells: each has the value of the serial run at some note, and an image has the cells that its note uses.
+-- The cells: each has the value of the serial run before some note, and an image has the cells that its note
+-- uses.
 use Rattle.std.proofs.lemmas.{Grind.common_steps, Option.same_Some, Bool.both_ways, Bool.cases_Bool, Bool.cases_eq}
 use Rattle.std.proofs.lemmas.{Bool.cases_lt, List.get_or-set_same, List.get_or-set_other, List.length-set}
 use Rattle.std.proofs.Common.{◌≡◌, ◌≢◌, ℕ, ◌+◌, ◌-◌, ◌<◌, ◌≤◌, ⊎_elim, pos, List, length, set, slice_set, true, false}
@@ -20,14 +21,14 @@ module _ {J : Type 0} (M : Meaning J) (F : Frames M) (k : Plan J) (plan : IsPlan
   writes_job t a j e h = subst (λ o. covers k.areas (writes_of M o) a ≡ true) (sym e)
       (subst (λ z. covers z (M.foot j).writes a ≡ true) (plan.layout t j e) h)
 
-  -- notes that don't write a cell leave it
+  -- notes that don't write a cell leave its value
   pub quiet : (p t a : ℕ) → p ≤ t → ((q : ℕ) → p ≤ q → q < t → writes_at M k q a ≡ false)
       → cell (before_at M k t) a ≡ cell (before_at M k p) a
   quiet p t a low h = passed_by_all M F k.jobs k.cells plan.valid p a (t - p) t (omega arith)
       (λ q j l m e w. both_ways _ (h q l m) (writes_job q a j e w))
 
-  -- a note has begun and isn't Done: a cell that it uses and that no note InProgress writes is as before it in the
-  -- serial run
+  -- a note has begun and isn't Done: a cell that it uses and that no note InProgress writes has the value
+  -- before it in the serial run
   pub used_before : (st wt cw : List ℕ) → Gates k st wt → (t a : ℕ) → t < k.notes → at st t ≢ 0 → at st t ≢ 3
       → uses_at M k t a ≡ true → ((u : ℕ) → u < k.notes → at st u ≡ 2 → writes_at M k u a ≡ false) → Kept M k st cw a
       → signed (at cw a) ≡ cell (before_at M k t) a
@@ -45,7 +46,7 @@ module _ {J : Type 0} (M : Meaning J) (F : Frames M) (k : Plan J) (plan : IsPlan
 
   module _ (st wt cw : List ℕ) (vs : List (View J)) (id : ℕ) (v w : View J) (here : get_elem? vs id ≡ some v)
       (g : Gates k st wt) where
-    -- a step after which the same notes are Done, and no other is InProgress that wasn't
+    -- a step after which the same notes are Done, and no further note is InProgress
     kept_still : (st' : List ℕ) (a : ℕ) → ((u : ℕ) → (at st' u == 3) ≡ (at st u == 3))
         → ((u : ℕ) → at st u ≡ 2 → at st' u ≡ 2) → Kept M k st cw a → Kept M k st' cw a
     kept_still st' a alike runs h =
@@ -119,7 +120,7 @@ module _ {J : Type 0} (M : Meaning J) (F : Frames M) (k : Plan J) (plan : IsPlan
           after = p.after;
         }
 
-    -- a note that has run is Done: the cells that it writes are those after it in the serial run
+    -- a note that has run becomes Done: the cells that it writes are those after it in the serial run
     pub stored_done : (d : Doing) → Doers k st vs → v.doing ≡ Some d → 1 ≤ d.phase → w.doing ≡ None → d.note < length st
         → d.note < k.notes → Stored M k st cw vs → Stored M k (set st d.note 3) cw (set vs id w)
     stored_done d D doing ran over low within s = record {

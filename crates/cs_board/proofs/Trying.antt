@@ -1,4 +1,4 @@
--- What tries leave: notes found, none owed that wasn't.
+-- What tries change: more notes are found, and no further note is owed.
 use Rattle.std.proofs.Common.{◌≡◌, ◌≢◌, ℕ, zero, suc, ◌+◌, ◌<◌, ◌≤◌, ◌⊎◌, ⊎_elim, List, [], ◌∷◌, ◌++◌, length, Bool}
 use Rattle.std.proofs.Common.{true, false, Option, Some, None, refl, sym, ap, ◌∙◌, subst, arith, slice_get, IfNone}
 use Rattle.std.proofs.Common.{is_some}
@@ -92,7 +92,7 @@ module _ {J : Type 0} (M : Meaning J) where
   idle_missed v t h = record { doing = h.doing; closing = h.closing; moving = h.moving }
 
 module _ {J : Type 0} (k : Plan J) where
-  -- tries in vain, and then tries in vain again
+  -- failed tries after failed tries
   pub tried_again : (u v w : View J) → HasTried k u v → HasTried k v w → HasTried k u w
   tried_again u v w a b = record {
     idle = b.idle;
@@ -103,7 +103,7 @@ module _ {J : Type 0} (k : Plan J) where
     same = same_seat u v w a.same b.same;
   }
 
--- a view that owes nothing of any note owes nothing
+-- a view that owes no try for any note owes nothing
 pub owes_none : {J : Type 0} (k : Plan J) (v : View J) → IsViewOf k v → ((t : ℕ) → t < k.notes → owed t v ≡ 0)
     → v.owes ≡ []
 owes_none k v h none = empty_from_times v.owes

@@ -1,4 +1,4 @@
--- The places of a note's footprint, one by one.
+-- The resources of a note's footprint, one by one.
 use Rattle.std.proofs.lemmas.{Grind.common_steps, Option.slice_get_within, Option.get_or_from_slice_get}
 use Rattle.cs_base.specs.Limits.{most_resources}
 use Rattle.std.proofs.Common.{◌≡◌, ℕ, zero, suc, ◌+◌, ◌-◌, ◌<◌, ◌≤◌, List, [], ◌∷◌, length, get_or, take, true, Option}
@@ -20,7 +20,7 @@ get_default (y ∷ ys) (suc i) r l = get_default ys i r (omega arith)
 pub contains_there : (xs : List ℕ) (i : ℕ) → i < length xs → Contains xs (at xs i)
 contains_there xs i l = (i, l, get_default xs i (at xs i) l)
 
--- a view that does this note is what it is when it does it
+-- a view that does this note doesn't change when it is set to do it
 pub does_again : {J : Type 0} (v : View J) (d : Doing) → v.doing ≡ Some d → v ≡ does v d
 does_again v d e = λ i. record v { doing = e i }
 
@@ -55,12 +55,12 @@ module _ {J : Type 0} (M : Meaning J) (k : Plan J) (whole : IsPlan M k) (t : ℕ
   pub few_writers : (r : ℕ) → writers_before M k t r ≤ t
   few_writers r = count_le (λ u. listed (places_written M k u) r) t
 
-  -- before the own turn a turn word counts the earlier writers alone
+  -- before its own turn, a note finds in a turn word only the earlier writers
   pub look_before : (v : View J) (r x : ℕ) → v.doing ≡ Some (ran_out M k t 0)
       → x ≡ writers_before M k (deed v).note r + turned_in M k r v.doing → x ≡ writers_before M k t r
   look_before v r x e h = grind (arith, common_steps)
 
-  -- and so it does before the note's turn there
+  -- before the note's turn on a resource, its turn word counts only the earlier writers
   pub look_next : (v : View J) (r x : ℕ) → v.doing ≡ Some (deed v) → (deed v).note ≡ t
       → slice_get (places_written M k t) ((deed v).phase - 1) ≡ Some r
       → x ≡ writers_before M k (deed v).note r + turned_in M k r v.doing → x ≡ writers_before M k (deed v).note r

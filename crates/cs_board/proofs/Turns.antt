@@ -1,4 +1,4 @@
--- The turn words: how many notes that write a resource have run.
+-- The turn words: the number of notes that write a resource and have run.
 use Rattle.std.proofs.lemmas.{Grind.common_steps, List.take_all}
 use Rattle.std.proofs.Common.{◌≡◌, ◌≢◌, ℕ, zero, suc, ◌+◌, ◌-◌, ◌<◌, ◌≤◌, ⊎_elim, List, [], ◌∷◌, length, set, take}
 use Rattle.std.proofs.Common.{Bool, true, false, Option, Some, None, refl, sym, ap, ◌∙◌, arith, ◌==◌, ◌&&◌, ◌||◌}
@@ -22,7 +22,7 @@ module _ {J : Type 0} (M : Meaning J) (k : Plan J) where
   done_same st st' r alike = grind (arith, common_steps, count_same)
 
   module _ (st : List ℕ) (vs : List (View J)) (id : ℕ) (v w : View J) (here : get_elem? vs id ≡ some v) where
-    -- the same notes are Done, and the view weighs on each turn word what it did
+    -- the same notes are Done, and the view has made the same turns
     pub turned_still : (st' tw : List ℕ) → ((u : ℕ) → (at st' u == 3) ≡ (at st u == 3))
         → ((r : ℕ) → turned_on M k r w ≡ turned_on M k r v) → Turned M k st tw vs → Turned M k st' tw (set vs id w)
     turned_still st' tw alike same_ h r l =
@@ -53,7 +53,7 @@ module _ {J : Type 0} (M : Meaning J) (k : Plan J) where
         ap one (listed_more W i r low (λ e. z.0 (sym e ∙ is))) in
         omega (arith, z.1, h r l, sum)) (put_cases tw r0 x r within)
 
-    -- a note whose turns are all made is Done
+    -- a note that has made all its turns becomes Done
     pub turned_done : (tw : List ℕ) (d : Doing) → v.doing ≡ Some d → w.doing ≡ None → at st d.note ≡ 2
         → d.note < length st → d.note < k.notes → d.phase ≡ 1 + length (places_written M k d.note)
         → Turned M k st tw vs → Turned M k (set st d.note 3) tw (set vs id w)
@@ -80,7 +80,7 @@ module _ {J : Type 0} (M : Meaning J) (k : Plan J) where
         others u n = ⊎_elim (λ z. absurd (n z.0)) (λ z. ap (λ x. x == 3 && listed (places_written M k u) r) z.1)
             (put_cases st d.note 3 u low)
 
-    -- what a turn word is to the note that looks at it
+    -- the value of a turn word for the note that looks at it
     module _ (plan : IsPlan M k) (wt : List ℕ) (g : Gates k st wt) (D : Doers k st vs) (d : Doing)
         (doing : v.doing ≡ Some d) where
       running : at st d.note ≡ 2

@@ -3,7 +3,7 @@ use Rattle.std.specs.Prelude.{◌≡◌, ℕ, ◌+◌, ◌≤◌, length}
 use Rattle.cs_graph.specs.Graph.{Dependencies}
 use Rattle.cs_board.specs.{Plans.area_count, Words.word_total, declared.view.Plan.Plan}
 
--- the board's numbers are those of its plan, and its table has room for it
+-- the counts that the board stores agree with its plan, and its table is large enough for them
 pub record IsBuilt {J : Type 0} (k : Plan J) (graph : Dependencies)
     (notes_made areas_made cells_made words_made slots_made : ℕ) : Type 0 where
   pub notes : k.notes ≡ notes_made

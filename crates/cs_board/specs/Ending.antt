@@ -1,5 +1,5 @@
--- The end of a cycle, once every seat but the first was joined. v is a view, k a plan, s the state of the board, t a
--- note; M is what jobs mean.
+-- The end of a cycle, once every seat but the first was joined. v is a view, k a plan, s the state of the
+-- board, t a note; M is what jobs mean.
 use Rattle.std.specs.Prelude.{◌≡◌, ℕ, ◌<◌, List, [], map, length, take, drop, true, false, None, slice_index}
 use mathlib.Core.Option.{some}
 use lib.ListN.{get_elem?}
@@ -10,7 +10,7 @@ use Rattle.cs_board.specs.{Views.slot_row, declared.view.Berth.Berth, declared.v
 use Rattle.cs_board.specs.{declared.view.Plan.Plan, declared.view.View.View, declared.words.TheConstants.DONE}
 use Rattle.cs_board.specs.Words.{Words, at, all_words, IsSized, status_at}
 
--- the first seat, when it runs nothing, has nothing to finish or to try, and has taken in each other seat
+-- the first seat when it runs nothing, has nothing to finish or to try, and has joined each other seat
 pub record IsLast {J : Type 0} (v : View J) : Type 0 where
   pub first : v.first ≡ true
   pub doing : v.doing ≡ None
@@ -25,7 +25,7 @@ abbrev pub HasLast : {J : Type 0} → State (Berth J) (View J) → Type 0
 HasLast s = (id : ℕ) × (v : View _) × (get_elem? s.views id ≡ some v) × IsLast v
 
 module _ {J : Type 0} (k : Plan J) where
-  -- the words of the cells among all words
+  -- the part of the words that holds the cells
   abbrev pub cells_in : List ℕ → List ℕ
   cells_in words = take (length k.cells) (drop 1 words)
 
@@ -33,20 +33,20 @@ module _ {J : Type 0} (k : Plan J) where
   abbrev pub AllDone : State (Berth J) (View J) → Type 0
   AllDone s = (t : ℕ) → t < k.notes → slice_index s.words (status_at k t) ≡ DONE
 
-  -- and each stands once among those that the last seat has finished
+  -- each note occurs once among those that the last seat has finished
   abbrev pub AllMine : View J → Type 0
   AllMine v = (t : ℕ) → t < k.notes → times t v.mine ≡ 1
 
   module _ (M : Meaning J) where
-    -- The cells are those of the serial run, and the slot of each note has its job as the serial run leaves it. The
-    -- other slots are vacant.
+    -- The cells are as the serial run leaves them, and the slot of each note holds its job as the serial run
+    -- leaves it. All further slots are vacant.
     pub record IsSerial (s : State (Berth J) (View J)) : Type 0 where
       pub cells : values (cells_in s.words) ≡ serial_cells M k.jobs k.cells
       pub vacant : ℕ
       pub jobs : map home_in s.homes ≡ slot_row 0 (serial_jobs M k.jobs k.cells) vacant
 
-    -- What a board at rest has after a cycle: what the serial run leaves, and turn words of those resources alone that
-    -- its notes write.
+    -- The state of a board at rest after a cycle: the result of the serial run, with turn words other than 0
+    -- only for resources that the cycle's notes write.
     pub record IsOver (w : Still J) : Type 0 where
       pub parts : Words
       pub words : w.words ≡ all_words parts

@@ -1,6 +1,5 @@
--- What is fixed while a cycle runs, and what the serial run makes of it.
--- M is what jobs mean, k a plan; t a note and p an earlier one, e, f, g edges; j a job, a an address, r the place of a
--- resource.
+-- What is fixed while a cycle runs, and what results from its serial run. M is what jobs mean, k a plan; t a
+-- note and p an earlier one; e, f and g are edges; j is a job, a an address, r the index of a resource.
 use Rattle.std.specs.Prelude.{◌≡◌, ℕ, zero, suc, ◌≤◌, List, [], ◌∷◌, map, length, Bool, false, ◌==◌, ◌||◌, Option, Some}
 use Rattle.std.specs.Prelude.{None, slice_get}
 use Rattle.cs_base.specs.Limits.{most_resources}
@@ -21,40 +20,46 @@ leads_out (e ∷ es) p zero = e.0 == p || leads_out es p zero
 leads_out (e ∷ es) p (suc i) = leads_out es p i
 
 module _ {J : Type 0} where
+  -- the number of edges
   abbrev pub edge_count : Plan J → ℕ
   edge_count k = length k.edges
 
+  -- the number of areas, one for each resource
   abbrev pub area_count : Plan J → ℕ
   area_count k = length k.areas
 
-  -- nothing has to be done before this note
+  -- note t waits for no other note
   abbrev pub IsRoot : Plan J → ℕ → Type 0
   IsRoot k t = (e p : ℕ) → ¬ (Edge k.edges e p t)
 
 module _ {J : Type 0} (M : Meaning J) where
-  -- what the notes may touch, in serial order
+  -- the footprints of the notes, in serial order
   abbrev pub feet : Plan J → List Footprint
   feet k = map M.foot k.jobs
 
+  -- the resources that a job uses; none without a job
   abbrev pub uses_of : Option J → List ℕ
   uses_of None = []
   uses_of (Some j) = (M.foot j).uses
 
+  -- the resources that a job writes; none without a job
   abbrev pub writes_of : Option J → List ℕ
   writes_of None = []
   writes_of (Some j) = (M.foot j).writes
 
-  -- the places of the resources that note t uses, and of those that it writes
+  -- the indexes of the resources that note t uses
   abbrev pub places_used : Plan J → ℕ → List ℕ
   places_used k t = uses_of (slice_get k.jobs t)
 
+  -- the indexes of the resources that note t writes
   abbrev pub places_written : Plan J → ℕ → List ℕ
   places_written k t = writes_of (slice_get k.jobs t)
 
-  -- note t may use, or write, the cell at this address; whatever is written counts as used
+  -- note t may use the cell at address a; a cell that it may write counts as used
   abbrev pub uses_at : Plan J → ℕ → ℕ → Bool
   uses_at k t a = covers k.areas (places_used k t) a || covers k.areas (places_written k t) a
 
+  -- note t may write the cell at address a
   abbrev pub writes_at : Plan J → ℕ → ℕ → Bool
   writes_at k t a = covers k.areas (places_written k t) a
 
@@ -62,12 +67,12 @@ module _ {J : Type 0} (M : Meaning J) where
   abbrev pub before_at : Plan J → ℕ → Cells
   before_at k t = before M k.jobs k.cells t
 
-  -- how many notes before t write the resource at place r
+  -- how many notes before t write resource r
   abbrev pub writers_before : Plan J → ℕ → ℕ → ℕ
   writers_before k t r = count_below (λ u. listed (places_written k u) r) t
 
-  -- What is known of a plan from the start: each edge is a conflict, each conflict is reached along edges, and the
-  -- edges into a note stand together.
+  -- The facts about a plan from the start: each edge is a conflict, each conflict is reached along edges, and
+  -- the edges into one note are consecutive.
   pub record IsPlan (k : Plan J) : Type 0 where
     pub jobs : length k.jobs ≡ k.notes
     pub forward : LeadsForward k.edges k.notes

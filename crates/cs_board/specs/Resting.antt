@@ -1,5 +1,6 @@
--- A board that rests between two cycles: its one seat, and how the next cycle is laid out on it. k is the plan of the
--- cycle that begins, w what is known of the board; t is a note, e an edge, r the place of a resource.
+-- A board that rests between two cycles: its one seat, and how the next cycle is laid out on it. k is the
+-- plan of the cycle that begins, w what is known about the board; t is a note, e an edge, r the index of a
+-- resource.
 use Rattle.std.specs.Prelude.{◌≡◌, ℕ, ◌+◌, ◌<◌, ◌≤◌, List, [], drop, length, is_some, true, false, Option, Some, None}
 use Rattle.atomic_table.specs.{Seated.TableId, declared.shared.Seat.Seat}
 use Rattle.cs_cells.specs.{Areas.word_count, Cells.values, declared.footprint.Area.Area}
@@ -8,19 +9,21 @@ use Rattle.cs_board.specs.{declared.view.Plan.Plan, declared.view.Still.Still, d
 use Rattle.cs_board.specs.Words.{Words, at, all_words, IsSized}
 use Rattle.cs_board.specs.Opening.{each_below, first_status, first_watch}
 
--- how many words a cycle of so many notes and edges needs
+-- the number of words that a cycle with these numbers of notes and edges needs
 abbrev pub wide : List Area → ℕ → ℕ → ℕ
 wide areas notes edges = 1 + (word_count areas + (length areas + (notes + (notes + edges))))
 
 module _ {J : Type 0} where
+  -- what is known about the board at rest, and an empty board if nothing is
   abbrev pub still_in : Option (Still J) → Still J
   still_in None = record { words = []; homes = [] }
   still_in (Some w) = w
 
-  -- the layout, and what the seat knows of the board
+  -- the layout that the seat knows
   abbrev pub areas_in : Seat (Berth J) (View J) → List Area
   areas_in seat = seat.me.0.plan.areas
 
+  -- what the seat knows about the board at rest
   abbrev pub known_in : Seat (Berth J) (View J) → Still J
   known_in seat = still_in seat.me.0.rest
 
@@ -31,7 +34,7 @@ module _ {J : Type 0} where
     pub knows : is_some seat.me.0.rest ≡ true
     pub carries : length seat.me.1 ≡ 0
 
-  -- the cycle is laid out from note t on, and its first e watch words are
+  -- the cycle is laid out for the notes from t on, and for the first e watch words
   pub record IsLaying (k : Plan J) (t e : ℕ) (w : Still J) : Type 0 where
     pub parts : Words
     pub words : w.words ≡ all_words parts

@@ -1,5 +1,6 @@
--- The rule of the board: what holds between any two steps of a whole performance, whatever the interleaving. M is what
--- jobs mean, k the plan of a cycle, w the words, s the state of the board; v and w are views, i and j slots or seats.
+-- The rule of the board: the invariant between any two steps of a complete performance, whatever the
+-- interleaving. M is what jobs mean, k the plan of a cycle, w the words, s the state of the board; v and w
+-- are views, i and j slots or seats.
 use Rattle.std.specs.Prelude.{◌≡◌, ◌≢◌, ℕ, ◌<◌, ◌≤◌, ◌⊎◌, List, map, length, false, Option, Some, None}
 use mathlib.Core.Option.{some, none}
 use lib.ListN.{get_elem?}
@@ -12,6 +13,7 @@ use Rattle.cs_board.specs.{declared.view.Still.Still, declared.view.View.View}
 use mathlib.Core.Option as maybe
 
 module _ {J : Type 0} (M : Meaning J) (k : Plan J) where
+  -- all facts of a cycle that is being played
   pub record Facts (w : Words) (homes : List (maybe.Option (Berth J))) (views : List (View J)) : Type 0 where
     pub gates : Gates k w.status w.watch
     pub sane : (id : ℕ) (v : View J) → get_elem? views id ≡ some v → IsSane k v
@@ -24,7 +26,7 @@ module _ {J : Type 0} (M : Meaning J) (k : Plan J) where
     pub stored : Stored M k w.status w.cells views
     pub turned : Turned M k w.status w.turns views
 
-  -- A cycle is being played by this plan. The slots behind those of its notes are vacant.
+  -- A cycle with this plan is being played. The slots after its notes' slots are vacant.
   pub record Holds (s : State (Berth J) (View J)) : Type 0 where
     pub plan : IsPlan M k
     pub parts : Words
@@ -35,16 +37,16 @@ module _ {J : Type 0} (M : Meaning J) (k : Plan J) where
     pub facts : Facts parts s.homes s.views
 
 module _ {J : Type 0} where
-  -- what lies in a slot, or None while it is out with a seat
+  -- the content of a slot, or None while a seat has taken it
   abbrev pub home_in : maybe.Option (Berth J) → Option (Berth J)
   home_in none = None
   home_in (some b) = Some b
 
-  -- all words, and what lies in each slot
+  -- all words, and the content of each slot
   abbrev pub stillness : State (Berth J) (View J) → Still J
   stillness s = record { words = s.words; homes = map home_in s.homes }
 
-  -- The board rests between two cycles: one seat knows all of it, and every other one was joined.
+  -- The board rests between two cycles: one seat knows everything on it, and every other seat was joined.
   pub record Resting (s : State (Berth J) (View J)) : Type 0 where
     pub id : ℕ
     pub view : View J
@@ -53,6 +55,7 @@ module _ {J : Type 0} where
     pub knows : view.rest ≡ Some (stillness s)
     pub others : (j : ℕ) (w : View J) → j ≢ id → get_elem? s.views j ≡ some w → w ≡ spent_view
 
--- A cycle is being played by some plan, which each of its seats has in its view, or the board rests.
+-- Either a cycle with some plan is being played, and each of its seats has the plan in its view, or the board
+-- rests.
 abbrev pub Always : {J : Type 0} → Meaning J → State (Berth J) (View J) → Type 0
 Always M s = ((k : Plan _) × Holds M k s) ⊎ Resting s

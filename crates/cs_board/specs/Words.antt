@@ -1,5 +1,5 @@
--- The words of the board: k is the plan of the cycle, w the words, t a note, e an edge, r the place of a resource, a an
--- address.
+-- The words of the board: k is the plan of the cycle, w the words, t a note, e an edge, r the index of a
+-- resource, a an address.
 use Rattle.std.specs.Prelude.{◌≡◌, ℕ, ◌+◌, List, ◌∷◌, ◌++◌, length, slice_index}
 use Rattle.cs_board.specs.{Plans.edge_count, Plans.area_count, declared.view.Plan.Plan}
 
@@ -15,22 +15,23 @@ pub record Words : Type 0 where
   pub own : List ℕ
   -- one for each edge
   pub watch : List ℕ
-  -- those that the cycle has no use for
+  -- the words that the cycle doesn't use
   pub spare : List ℕ
 
--- the word with a number, and 0 past the last
+-- word number i, and 0 after the last
 abbrev pub at : List ℕ → ℕ → ℕ
 at xs i = slice_index xs i
 
--- all words; the first one is 0 and never changes. Cells and turns have the same places in all cycles.
+-- all words in order; word 0 is 0 and never changes. Cells and turns have the same numbers in all cycles.
 abbrev pub all_words : Words → List ℕ
 all_words w = 0 ∷ w.cells ++ (w.turns ++ (w.status ++ (w.own ++ (w.watch ++ w.spare))))
 
--- where each cell stands among all
+-- the number of the word of the cell at address a
 abbrev pub cell_at : ℕ → ℕ
 cell_at a = 1 + a
 
 module _ {J : Type 0} (k : Plan J) where
+  -- there is a word for each cell, resource, note and edge of the plan
   pub record IsSized (w : Words) : Type 0 where
     pub cells : length w.cells ≡ length k.cells
     pub turns : length w.turns ≡ area_count k
@@ -39,19 +40,22 @@ module _ {J : Type 0} (k : Plan J) where
     pub watch : length w.watch ≡ edge_count k
     pub spare : length w.spare ≡ k.spare
 
-  -- and where each other word does
+  -- the number of the turn word of resource r
   abbrev pub turn_at : ℕ → ℕ
   turn_at r = 1 + (length k.cells + r)
 
+  -- the number of the status word of note t
   abbrev pub status_at : ℕ → ℕ
   status_at t = 1 + (length k.cells + (area_count k + t))
 
+  -- the number of the own turn word of note t
   abbrev pub own_at : ℕ → ℕ
   own_at t = 1 + (length k.cells + (area_count k + (k.notes + t)))
 
+  -- the number of the watch word of edge e
   abbrev pub watch_at : ℕ → ℕ
   watch_at e = 1 + (length k.cells + (area_count k + (k.notes + (k.notes + e))))
 
-  -- how many words the cycle needs
+  -- the number of words that the cycle needs
   abbrev pub word_total : ℕ
   word_total = 1 + (length k.cells + (area_count k + (k.notes + (k.notes + edge_count k))))

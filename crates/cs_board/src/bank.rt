@@ -1,4 +1,4 @@
-// The cells of the board as a bank.
+// The cells of the board as the bank that a job runs on.
 ghost use Rattle.std.specs.Prelude.{◌≡◌, ◌+◌, Some, true, slice_get};
 ghost use Rattle.cs_board.specs.{inner.Banks.imageless, Board.plan, Views.does, Views.set_image, Views.fresh};
 ghost use Rattle.cs_board.specs.inner.Sittings.{IsSittingOf, deed, ran_out};
@@ -11,7 +11,7 @@ use cs_base::Num;
 use cs_cells::{Bank, Job};
 
 impl<J: Job> Board<J> {
-    /// A look at a cell that the note uses.
+    // Reads a cell that the note uses.
     fn look_cell(&self, sitting: &mut Sitting<J>, addr: u32) -> Num
         requires sitting { IsSittingOf J.means self.now sitting.old }
         requires doing { sitting.old.me.0.doing ≡ Some (deed sitting.old.me.0) }
@@ -25,7 +25,7 @@ impl<J: Job> Board<J> {
         Num::of_raw(found.cast_signed())
     }
 
-    /// A cell that the note writes is set, before it has run.
+    // Sets a cell that the note writes; the note hasn't run yet.
     fn set_cell(&self, sitting: &mut Sitting<J>, addr: u32, value: Num)
         requires sitting { IsSittingOf J.means self.now sitting.old }
         requires doing { sitting.old.me.0.doing ≡ Some (deed sitting.old.me.0) }
@@ -48,7 +48,8 @@ impl<J: Job> Board<J> {
     }
 }
 
-/// The board's cells, through a seat that does a note. Each look and each set is one step on one word.
+// The board's cells, accessed through a seat that is running a note. Each read and each write is one step on
+// one word.
 #[derive(Drop)]
 struct BoardBank<'b, J: Job> {
     board: &'b Board<J>,
@@ -79,7 +80,7 @@ impl<J: Job> Bank for BoardBank<'_, J> {
 }
 
 impl<J: Job> Board<J> {
-    /// Runs a job on the board's cells.
+    // Runs a job on the board's cells.
     fn run_job(&self, sitting: &mut Sitting<J>, job: &mut J, note: u32)
         requires sitting { IsSittingOf J.means self.now sitting.old }
         requires job { slice_get (plan self.now).jobs note ≡ Some job.old }
@@ -98,7 +99,8 @@ impl<J: Job> Board<J> {
         job.run(&mut bank);
     }
 
-    /// Performs the note: its job and its cells are those of the serial run afterwards.
+    /// Runs the note's job. Afterwards the job and the note's cells are the ones after this note in the
+    /// serial run.
     pub(crate) fn perform(&self, sitting: &mut Sitting<J>, job: &mut J, note: u32)
         requires sitting { IsSittingOf J.means self.now sitting.old }
         requires job { slice_get (plan self.now).jobs note ≡ Some job.old }

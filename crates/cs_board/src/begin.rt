@@ -1,4 +1,4 @@
-// The beginning of a cycle that is laid out, and the end of one that was played.
+// The start of a cycle that is laid out, and the end of one that was played.
 ghost use Rattle.std.specs.Prelude.{◌≡◌, ◌<◌, ◌≤◌, [], length, true};
 ghost use Rattle.std.specs.Vec.{vec_capacity};
 ghost use Rattle.cs_board.specs.Board.{plan, name, view, graph_of, IsSeatOf, IsIdle, IsViewOf};
@@ -13,7 +13,7 @@ use std::alloc::Global;
 use std::snapshot::Snapshot;
 use std::sync::Arc;
 
-/// What a board is made of.
+/// The parts of which a board is made.
 pub struct Parts<J: Job> {
     pub table: Berths<J>,
     pub graph: Arc<Graph, Global>,
@@ -23,8 +23,9 @@ pub struct Parts<J: Job> {
 }
 
 impl<J: Job> Board<J> {
-    /// The board of the cycle that is laid out on a table, and its first seat. `graph` says which note waits for which,
-    /// `areas` and `cells` are the numbers of the layout, and `room` is empty and has room for the jobs at the end.
+    /// Makes the board of the cycle that is laid out on `table`, and its first seat. `graph` says which note
+    /// waits for which, `areas` and `cells` are the counts of the layout, and `room` is empty and has
+    /// capacity for the jobs at the end.
     pub fn begin(
         table: Berths<J>,
         mut seat: Sitting<J>,
@@ -69,8 +70,9 @@ impl<J: Job> Board<J> {
         (board, seat)
     }
 
-    /// The cycle ends: the seat knows all of the board, which is what the serial run leaves. It is the first seat,
-    /// whose last claim answered None and which has joined every other seat. Beside it comes the room for the jobs.
+    /// Ends the cycle. `seat` is the first seat: its last claim returned None, and it has joined every other
+    /// seat. Returns the seat, which now knows everything on the board (the result of the serial run), and
+    /// the empty vector with room for the jobs.
     pub fn end(&self, seat: BoardSeat<J>) -> (Sitting<J>, Vec<J>)
         requires seat { IsSeatOf J.means (plan self.now) (name self.now) seat }
         requires idle { IsIdle (view seat) }
@@ -89,7 +91,7 @@ impl<J: Job> Board<J> {
         (seat, room)
     }
 
-    /// The cycle ends: this seat knows all of the board.
+    // Ends the cycle, after which this seat knows everything on the board.
     fn end_cycle(&self, seat: &mut Sitting<J>)
         requires table { seat.old.table_id ≡ name self.now }
         requires carries { seat.old.me.1 ≡ [] }
@@ -103,7 +105,7 @@ impl<J: Job> Board<J> {
         self.frame.table.shared.load::<End>(seat, 0);
     }
 
-    /// The parts, once no seat is needed any more.
+    /// Returns the parts again, once no seat is needed any more.
     pub fn into_parts(self) -> Parts<J>
         ensures table { result.table.shared.table_id ≡ name self }
         ensures graph { result.graph.value ≡ graph_of self }
@@ -128,7 +130,7 @@ impl<J: Job> Board<J> {
     }
 }
 
-/// The cycle that is laid out begins. The step is told its graph, which comes back.
+// Begins the cycle that is laid out. The step takes the cycle's graph and returns it.
 fn begin_cycle<J: Job>(
     table: &Berths<J>,
     seat: &mut Sitting<J>,

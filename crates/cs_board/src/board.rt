@@ -10,42 +10,42 @@ use std::alloc::Global;
 use std::snapshot::Snapshot;
 use std::sync::Arc;
 
-/// What one worker steps with. A seat is used by one thread at a time; `Board::begin` gives the
-/// first, and `Board::split` the others. It holds no job between two calls.
+/// What one worker steps with. One thread at a time uses a seat; `Board::begin` returns the first one, and
+/// `Board::split` makes the rest. It holds no job between two calls.
 #[derive(Drop)]
 pub struct BoardSeat<J> {
     pub(crate) badge: Badge<View<J>>,
-    /// The note that it claimed last.
+    /// The note that this seat claimed last.
     pub(crate) note: u32,
-    /// A note that it opened and hasn't tried since.
+    /// A note that this seat opened and hasn't tried since.
     pub(crate) opened: Option<u32>,
-    /// Where its next claim goes on with its round over all notes.
+    /// The note at which this seat's next round over all notes begins.
     pub(crate) next: u32,
-    /// How many seats were split off it.
+    /// How many seats were split off this one.
     pub(crate) splits: u32,
-    /// In the first seat, the room for the jobs at the end.
+    /// In the first seat, the empty vector with room for the jobs at the end.
     pub(crate) room: Option<Vec<J>>,
 }
 
-/// A seat in the midst of a call, or between two cycles.
+/// A seat during a call, or between two cycles.
 pub type Sitting<J> = Seat<Berth<J>, View<J>>;
 
-/// The words and slots of a whole performance.
+/// The words and slots of a complete performance.
 pub type Berths<J> = Table<Berth<J>, View<J>, Key, Rule, Global>;
 
-/// The table of a board that is played. It is a struct by itself, since the proof that a board may
-/// be shared by threads goes field by field.
+/// The table of a board while a cycle is played. It is a separate struct because the proof that threads may
+/// share a board goes field by field.
 #[derive(Drop)]
 pub(crate) struct Frame<J: Job> {
     pub(crate) table: Berths<J>,
 }
 
-/// The board of one control cycle, which all its workers share.
+/// The board of one control cycle, shared by all its workers.
 #[derive(Drop)]
 pub struct Board<J: Job> {
     pub(crate) frame: Frame<J>,
     pub(crate) graph: Arc<Graph, Global>,
-    /// What the first seat knew at the opening.
+    /// What the first seat knew when the cycle began.
     pub(crate) opening: Snapshot<Badge<View<J>>>,
     pub(crate) notes: u32,
     pub(crate) areas: u32,

@@ -9,7 +9,7 @@ use cs_cells::Job;
 use std::cmp::min;
 
 impl<J: Job> Board<J> {
-    /// Tries the notes from one on and below another.
+    // Tries the notes from `from` up to and without `to`.
     fn try_range(
         &self,
         sitting: &mut Sitting<J>,
@@ -38,7 +38,7 @@ impl<J: Job> Board<J> {
         None
     }
 
-    /// Tries all notes once: those from one on, and then those before it.
+    // Tries all notes once: the notes from `from` on, and then those before it.
     fn try_round(&self, sitting: &mut Sitting<J>, from: u32, steps: &mut Steps) -> Option<u32>
         requires sitting { IsSittingOf J.means self.now sitting.old }
         requires idle { IsIdle sitting.old.me.0 }
@@ -60,15 +60,15 @@ impl<J: Job> Board<J> {
         self.try_range(sitting, 0, from, steps)
     }
 
-    /// Claims a note that is Available, or answers None where each note was tried and found
-    /// otherwise. It tries each note at most once: it goes round from one that the seat itself has
-    /// opened, or else from where the last claim left off. Each try is a step that is counted.
+    /// Claims a note that is Available, or returns None if each note was tried and found otherwise. It tries
+    /// each note at most once: the round begins at a note that the seat itself has opened, or otherwise at
+    /// the point that the last claim reached. `steps` counts each try.
     pub fn claim(&self, seat: &mut BoardSeat<J>, steps: &mut Steps) -> Option<u32>
         requires seat { IsSeatOf J.means (plan self.now) (name self.now) seat.old }
         requires idle { IsIdle (view seat.old) }
         requires steps { steps.old.count ≤ 2 ^ 63 }
         ensures seat { IsSeatOf J.means (plan self.now) (name self.now) seat.new }
-        // The note is this seat's, with the cells that the serial run has before it.
+        // The claimed note belongs to this seat; its cells are the ones that the serial run has before it.
         ensures some { IfSome result (λ t. IsClaimed J.means (view seat.new)
             × (note_of (view seat.new) ≡ t) × (t < (plan self.now).notes)) }
         ensures none { IfNone result (IsIdle (view seat.new) × ((view seat.new).owes ≡ [])
@@ -89,7 +89,8 @@ impl<J: Job> Board<J> {
 }
 
 impl<J> BoardSeat<J> {
-    /// The note that it claimed. Its round goes on behind that note, unless it had opened the note itself.
+    // Remembers the note that was claimed. The next round begins after that note, unless the seat had opened
+    // the note itself.
     fn remember(&mut self, won: Option<u32>)
         ensures note { IfSome won (λ t. self.new.note ≡ t) }
         ensures room { self.new.room ≡ self.old.room }

@@ -10,8 +10,8 @@ use crate::board::{Board, BoardSeat, Sitting};
 use cs_cells::Job;
 
 impl<J: Job> Board<J> {
-    /// A note that was found watching this edge watches the next one that isn't closed, or is
-    /// opened where there is none. It answers whether it was opened.
+    // Moves a note that was watching this edge on to its next edge that isn't closed, or opens the note if
+    // there is no such edge. Returns whether it was opened.
     fn move_on(&self, sitting: &mut Sitting<J>, edge: u32, note: u32) -> bool
         requires sitting { IsSittingOf J.means self.now sitting.old }
         requires edge { (p : ℕ) × Edge (plan self.now).edges edge p note }
@@ -33,7 +33,7 @@ impl<J: Job> Board<J> {
         true
     }
 
-    /// Closes an edge from the note, and moves its watcher on. It answers the watcher, if that was opened.
+    // Closes an edge from the note, and moves its watcher on. Returns the watcher if that was opened.
     fn close_one(&self, sitting: &mut Sitting<J>, edge: u32, note: u32) -> Option<u32>
         requires sitting { IsSittingOf J.means self.now sitting.old }
         requires closing { ClosesAt (plan self.now) sitting.old.me.0 note edge }
@@ -54,7 +54,7 @@ impl<J: Job> Board<J> {
         }
     }
 
-    /// Closes all edges from the note. It answers the first watcher that it opened.
+    // Closes all edges from the note. Returns the first watcher that was opened.
     fn close_all(&self, sitting: &mut Sitting<J>, note: u32) -> Option<u32>
         requires sitting { IsSittingOf J.means self.now sitting.old }
         requires note { note < (plan self.now).notes }
@@ -76,7 +76,8 @@ impl<J: Job> Board<J> {
         opened
     }
 
-    /// The note that has run is Done. Each note that waited for it alone becomes Available and is owed by this seat.
+    /// Makes the note that has run Done. Each note that waited only for it becomes Available, and this seat
+    /// owes a try for it.
     pub fn finish(&self, seat: &mut BoardSeat<J>)
         requires seat { IsSeatOf J.means (plan self.now) (name self.now) seat.old }
         requires ran { HasRun J.means (view seat.old) }

@@ -1,4 +1,4 @@
-// What follows from the rule, in any state.
+// Consequences of the rule in any state.
 ghost use Rattle.std.specs.Prelude.{◌≡◌, ℕ};
 ghost use mathlib.Core.Option.{some};
 ghost use lib.ListN.{get_elem?};
@@ -9,7 +9,8 @@ ghost use Rattle.cs_board.specs.{Laws.DoneOnce, Laws.EarlierDone, Laws.SeenBefor
 use crate::view::{Berth, Plan, View};
 use cs_cells::Job;
 
-/// The laws of the rule, of any plan and any state. It does nothing: its clauses are the laws.
+/// The laws of the rule, for any plan and any state. For the prover: it does nothing as it runs; its clauses
+/// are the laws.
 pub fn rule_laws<J: Job>()
     ensures earlier_done { (k : Plan J) (s : State (Berth J) (View J)) → Holds J.means k s → EarlierDone k s J.means }
     ensures seen_before { (k : Plan J) (s : State (Berth J) (View J)) → Holds J.means k s → SeenBefore k s J.means }

@@ -1,17 +1,17 @@
-//! The board of a control cycle. Workers claim notes on the board, run them and finish them, in any
-//! order that its words allow.
+//! The board of a control cycle. Workers claim notes on the board, run them and finish them, in any order
+//! that the board's words allow.
 //!
-//! The one contract: whatever the interleaving of the seats' steps, once every other seat was joined the board has the
-//! jobs and the cells that the notes leave when they run one by one in serial order (`Board::end`), of the cycle that
-//! it began with (`Board::begin`). What holds between any two steps is the rule `Always`, as plain data: a cycle is
-//! being played by some plan, with all facts that lie between any two steps of it (`Holds`), or the board rests; each
-//! kind of step keeps it. From `Holds` follow `rule_laws`: each earlier conflicting note is Done when a note begins,
-//! none is done by two workers, and none is lost.
+//! The one contract (`Board::begin`, `Board::end`): whatever the interleaving of the seats' steps, once every
+//! other seat was joined, the board holds the jobs and the cells that result when the notes of its cycle run
+//! one by one in serial order. The invariant between any two steps is the rule `Always`, in plain data:
+//! either a cycle of some plan is being played and all the facts in `Holds` are true, or the board rests;
+//! each kind of step preserves it. `rule_laws` follow from `Holds`: each earlier conflicting note is Done
+//! when a note begins, no two workers run the same note, and none is lost.
 //!
-//! In which order `claim` tries the notes, how one is waited for, how a word is numbered and how the
-//! facts are grouped may change without anyone above noticing; the words, the views and what each kind
-//! of step tells may not. In reading order: `words`, `view`, `plays`, `laws` (the rule); `board`,
-//! `begin`, `steps`, `claim`, `wait`, `bank`, `run`, `finish`, `seats`.
+//! These may change without anyone above noticing: the order in which `claim` tries the notes, how a seat
+//! waits for a note, how words are numbered and how the facts are grouped. The words, the views and what each
+//! kind of step lets a seat know may not. In reading order: `words`, `view`, `plays`, `laws` (the rule);
+//! `board`, `begin`, `steps`, `claim`, `wait`, `bank`, `run`, `finish`, `seats`.
 #![tactic(auto)]
 
 mod bank;

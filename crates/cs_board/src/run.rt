@@ -10,7 +10,7 @@ use crate::board::{Board, BoardSeat, Sitting};
 use cs_cells::Job;
 
 impl<J: Job> Board<J> {
-    /// Takes the job of the note that was claimed out of its slot.
+    // Takes the job of the note that was claimed out of its slot.
     fn take_job(&self, sitting: &mut Sitting<J>, note: u32) -> J
         requires sitting { IsSittingOf J.means self.now sitting.old }
         requires note { note < (plan self.now).notes }
@@ -36,7 +36,7 @@ impl<J: Job> Board<J> {
         job
     }
 
-    /// Puts the job of a note that has run back into its slot.
+    // Puts the job of a note that has run back into its slot.
     fn put_job(&self, sitting: &mut Sitting<J>, note: u32, job: J)
         requires sitting { IsSittingOf J.means self.now sitting.old }
         requires phase { 1 ≤ (deed sitting.old.me.0).phase }
@@ -57,7 +57,7 @@ impl<J: Job> Board<J> {
         self.leave_job(sitting, note);
     }
 
-    /// One look at the turn word of each resource that the note uses, added up.
+    // Reads the turn word of each resource that the note uses, and returns their sum.
     fn look_turns(&self, sitting: &mut Sitting<J>, job: &J, note: u32) -> u64
         requires sitting { IsSittingOf J.means self.now sitting.old }
         requires foot { (J.means.foot job.now).uses ≡ places_used J.means (plan self.now) note }
@@ -73,7 +73,7 @@ impl<J: Job> Board<J> {
         turns
     }
 
-    /// The next turn of the note, on a resource that it writes.
+    // Counts the note's next turn, on a resource that it writes.
     fn turn_on(&self, sitting: &mut Sitting<J>, area: u32, note: u32)
         requires sitting { IsSittingOf J.means self.now sitting.old }
         requires note { (deed sitting.old.me.0).note ≡ note }
@@ -89,7 +89,7 @@ impl<J: Job> Board<J> {
         self.turn_to(sitting, area, found + 1);
     }
 
-    /// The turns of the note on all resources that it writes.
+    // Counts the note's turns on all resources that it writes.
     fn turn_all(&self, sitting: &mut Sitting<J>, job: &J, note: u32)
         requires sitting { IsSittingOf J.means self.now sitting.old }
         requires foot { (J.means.foot job.now).writes ≡ places_written J.means (plan self.now) note }
@@ -106,8 +106,8 @@ impl<J: Job> Board<J> {
         }
     }
 
-    /// Runs the note that was claimed, on the cells of the serial run. It answers how many earlier
-    /// notes write each resource that the note uses, added up over these resources.
+    /// Runs the note that was claimed, on the cells of the serial run. Returns how many earlier notes write
+    /// each resource that the note uses, added up over these resources.
     pub fn run(&self, seat: &mut BoardSeat<J>) -> u64
         requires seat { IsSeatOf J.means (plan self.now) (name self.now) seat.old }
         requires claimed { IsClaimed J.means (view seat.old) }

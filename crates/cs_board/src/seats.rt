@@ -1,4 +1,4 @@
-// Seats: sitting down for a call, splitting one off and taking one in.
+// Seats: beginning and ending a call, splitting a seat off and joining one.
 ghost use Rattle.std.specs.Prelude.{◌≡◌, ◌<◌, ℕ, [], Some, true, false};
 ghost use Rattle.cs_board.specs.Board.{plan, name, view, IsSeatOf, IsIdle, HasRoom};
 ghost use Rattle.cs_board.specs.{inner.Sittings.IsSittingOf, declared.view.Doing.Doing};
@@ -11,7 +11,7 @@ use cs_cells::Job;
 use std::mem;
 
 impl<J: Job> Board<J> {
-    /// The seat begins a call.
+    /// Begins a call with this seat.
     pub(crate) fn sit(&self, seat: &mut BoardSeat<J>) -> Sitting<J>
         requires { IsSeatOf J.means (plan self.now) (name self.now) seat.old }
         ensures sitting { IsSittingOf J.means self.now result }
@@ -22,7 +22,7 @@ impl<J: Job> Board<J> {
         mem::replace(&mut seat.badge, Badge::blank()).into_seat()
     }
 
-    /// The seat ends a call.
+    /// Ends a call with this seat.
     pub(crate) fn rise(&self, seat: &mut BoardSeat<J>, sitting: Sitting<J>)
         requires sitting { IsSittingOf J.means self.now sitting }
         requires carries { sitting.me.1 ≡ [] }
@@ -36,7 +36,7 @@ impl<J: Job> Board<J> {
         seat.badge = sitting.into_badge();
     }
 
-    /// A new seat of the board, split off the first one.
+    /// Splits a new seat of the board off the first one.
     pub fn split(&self, seat: &mut BoardSeat<J>) -> BoardSeat<J>
         requires seat { IsSeatOf J.means (plan self.now) (name self.now) seat.old }
         requires first { (view seat.old).first ≡ true }
@@ -59,7 +59,8 @@ impl<J: Job> Board<J> {
         }
     }
 
-    /// The first seat takes in another, which runs nothing and owes nothing, as after a claim that answered None.
+    /// Joins another seat into the first one. The other seat runs nothing and owes nothing, as after a claim
+    /// that returned None.
     pub fn join(&self, seat: &mut BoardSeat<J>, other: BoardSeat<J>)
         requires seat { IsSeatOf J.means (plan self.now) (name self.now) seat.old }
         requires first { (view seat.old).first ≡ true }
@@ -81,8 +82,8 @@ impl<J: Job> Board<J> {
     }
 }
 
-/// The note with which the rounds of the seat that was split off as this one begin: the half, then
-/// the quarters, then the eighths of all notes, so that seats begin far from each other.
+// Returns the note at which the rounds of split number `split` begin: a half, then the quarters, then the
+// eighths of all notes, so that seats begin far from each other.
 fn spread(split: u32, notes: u32) -> u32 {
     notes.saturating_mul(split.reverse_bits() >> 27) / 32
 }

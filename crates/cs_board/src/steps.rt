@@ -1,4 +1,4 @@
-// The steps on the board's words, one function each.
+// The steps on the board's words, one function for each.
 ghost use Rattle.std.specs.Prelude.{◌≡◌, ◌+◌, ◌-◌, ◌<◌, ◌≤◌, ℕ, [], ◌∷◌, Some, None, true, false, slice_get};
 ghost use Rattle.cs_board.specs.{Board.plan, Board.IsIdle, Board.run_through, inner.Sittings.stopped};
 ghost use Rattle.cs_board.specs.{inner.Sittings.ran_out, Counts.listed, Facts.turned_in, Words.watch_at, Words.own_at};
@@ -28,27 +28,29 @@ impl<J: Job> Board<J> {
         1 + self.cells as usize + self.areas as usize + self.notes as usize + note as usize
     }
 
+    /// Returns the number of the note's status word.
     pub(crate) fn status_word(&self, note: u32) -> usize
         ensures { result ≡ status_at (plan self.now) note }
     {
         1 + self.cells as usize + self.areas as usize + note as usize
     }
 
-    /// The number of the word that counts the turns on the resource at this place.
+    /// Returns the number of the word that counts the turns on the resource with index `area`.
     pub fn turn_word(&self, area: u32) -> usize
         ensures { result ≡ turn_at (plan self.now) area }
     {
         1 + self.cells as usize + area as usize
     }
 
+    /// Returns the number of the word that holds the cell at `addr`.
     pub(crate) fn cell_word(&self, addr: u32) -> usize
         ensures { result ≡ cell_at addr }
     {
         1 + addr as usize
     }
 
-    /// One try to claim a note. It looks first, and exchanges only what it found Available: an exchange in vain
-    /// would take the word from the worker that writes it.
+    /// Tries once to claim a note. It looks first, and exchanges only a status that it found Available: a
+    /// failed exchange would take the word's cache line from the worker that writes it.
     pub(crate) fn try_note(&self, sitting: &mut Sitting<J>, note: u32) -> bool
         requires sitting { IsSittingOf J.means self.now sitting.old }
         requires idle { IsIdle sitting.old.me.0 }
@@ -62,7 +64,7 @@ impl<J: Job> Board<J> {
         self.claim_note(sitting, note)
     }
 
-    /// Whether a look finds a note Available. Where it doesn't, that was a try in vain.
+    // Returns whether the note is found Available; if it isn't, this was a failed try.
     fn look_status(&self, sitting: &mut Sitting<J>, note: u32) -> bool
         requires sitting { IsSittingOf J.means self.now sitting.old }
         requires note { note < (plan self.now).notes }
@@ -73,7 +75,7 @@ impl<J: Job> Board<J> {
         self.frame.table.shared.load::<LookStatus>(sitting, word) == AVAILABLE
     }
 
-    /// A note is claimed, unless another seat was faster: then that was a try in vain.
+    // Claims a note, or records a failed try if another seat was faster.
     fn claim_note(&self, sitting: &mut Sitting<J>, note: u32) -> bool
         requires sitting { IsSittingOf J.means self.now sitting.old }
         requires idle { IsIdle sitting.old.me.0 }
@@ -89,7 +91,7 @@ impl<J: Job> Board<J> {
             == AVAILABLE
     }
 
-    /// The job of the note that was claimed leaves its slot.
+    /// Takes the job of the claimed note out of its slot.
     pub(crate) fn reach_job(&self, sitting: &mut Sitting<J>, note: u32)
         requires sitting { IsSittingOf J.means self.now sitting.old }
         requires note { note < (plan self.now).notes }
@@ -105,7 +107,7 @@ impl<J: Job> Board<J> {
         self.frame.table.shared.load::<Take>(sitting, 0);
     }
 
-    /// A look at a turn word.
+    /// Reads a turn word.
     pub(crate) fn look_turn(&self, sitting: &mut Sitting<J>, area: u32) -> u64
         requires sitting { IsSittingOf J.means self.now sitting.old }
         requires area { area < area_count (plan self.now) }
@@ -121,7 +123,7 @@ impl<J: Job> Board<J> {
         self.frame.table.shared.load::<LookTurn>(sitting, word)
     }
 
-    /// The own turn of a note that has run.
+    /// Counts the own turn of a note that has run.
     pub(crate) fn turn_own(&self, sitting: &mut Sitting<J>, note: u32)
         requires sitting { IsSittingOf J.means self.now sitting.old }
         requires note { note < (plan self.now).notes }
@@ -134,7 +136,7 @@ impl<J: Job> Board<J> {
         self.frame.table.shared.store::<Turn>(sitting, word, 1);
     }
 
-    /// The next turn of the note, on a resource that it writes, whose turn word has this value after it.
+    /// Counts the note's next turn, on a resource that it writes; `value` is the turn word's value after it.
     pub(crate) fn turn_to(&self, sitting: &mut Sitting<J>, area: u32, value: u64)
         requires sitting { IsSittingOf J.means self.now sitting.old }
         requires area { area < area_count (plan self.now) }
@@ -151,7 +153,7 @@ impl<J: Job> Board<J> {
         self.frame.table.shared.store::<Turn>(sitting, word, value);
     }
 
-    /// The job of a note that has run and made its turns comes home.
+    /// Puts the job of a note that has run and made its turns back into its slot.
     pub(crate) fn leave_job(&self, sitting: &mut Sitting<J>, note: u32)
         requires sitting { IsSittingOf J.means self.now sitting.old }
         requires phase { 1 ≤ (deed sitting.old.me.0).phase }
@@ -169,7 +171,7 @@ impl<J: Job> Board<J> {
         self.frame.table.shared.load::<Give>(sitting, 0);
     }
 
-    /// The note is Done.
+    /// Makes the note Done.
     pub(crate) fn store_done(&self, sitting: &mut Sitting<J>, note: u32)
         requires sitting { IsSittingOf J.means self.now sitting.old }
         requires note { note < (plan self.now).notes }
@@ -181,7 +183,7 @@ impl<J: Job> Board<J> {
         self.frame.table.shared.store::<Finish>(sitting, word, DONE);
     }
 
-    /// An edge from the note is closed. It answers what the watch word was.
+    /// Closes an edge from the note. Returns the watch word before it.
     pub(crate) fn close_edge(
         &self,
         sitting: &mut Sitting<J>,
@@ -200,7 +202,7 @@ impl<J: Job> Board<J> {
         self.frame.table.shared.swap::<Close>(sitting, word, CLOSED)
     }
 
-    /// A waiting note watches its next edge, unless that is closed.
+    /// Lets a waiting note watch its next edge, unless that edge is closed. Returns whether it watches it.
     pub(crate) fn watch_edge(&self, sitting: &mut Sitting<J>, edge: u32, note: u32) -> bool
         requires sitting { IsSittingOf J.means self.now sitting.old }
         requires moving { MovesAt (plan self.now) sitting.old.me.0 note edge }
@@ -215,7 +217,7 @@ impl<J: Job> Board<J> {
             == IDLE
     }
 
-    /// A waiting note that has passed all edges into it is Available.
+    /// Makes a waiting note that has passed all edges into it Available.
     pub(crate) fn open_note(&self, sitting: &mut Sitting<J>, note: u32)
         requires sitting { IsSittingOf J.means self.now sitting.old }
         requires note { note < (plan self.now).notes }

@@ -1,4 +1,4 @@
-// Claiming a note that may have to be waited for.
+// Claiming a note, with a wait if no note is Available yet.
 ghost use Rattle.std.specs.Prelude.{◌≡◌, ◌<◌, ℕ, [], IfSome, IfNone};
 ghost use Rattle.cs_board.specs.Board.{plan, name, view, IsSeatOf, IsIdle, IsClaimed, SameSeat, FoundSince, note_of};
 ghost use Rattle.cs_board.specs.{inner.Sittings.HasTried, declared.view.View.View};
@@ -9,17 +9,18 @@ use cs_base::Steps;
 use cs_cells::Job;
 use std::{hint, thread};
 
-/// How long a seat that finds no note to claim looks for one, while notes wait: so many looks at all notes, the
-/// first of which follow at once, and the others after other threads were let run.
+/// How long a seat that finds no note to claim goes on looking, while notes wait. It looks over all notes
+/// `looks` times; the first `brisk` looks follow each other immediately, and before each later one it lets
+/// other threads run.
 #[derive(Clone, Copy, Debug, PartialEq, Eq)]
 pub struct Patience {
     pub looks: u32,
     pub brisk: u32,
 }
 
-/// What a look at all notes found: one that can be claimed; none, and this one the first that waits; or none that
-/// waits either, so that there will be nothing to claim. It may have changed since, though a note that doesn't wait
-/// won't wait again.
+// What a look over all notes found: a note that can be claimed; no such note, and the first note that waits;
+// or no waiting note either, so that there will be nothing to claim. This may have changed since, but a note
+// that doesn't wait never waits again.
 #[derive(Clone, Copy, PartialEq, Eq)]
 enum Outlook {
     Available,
@@ -28,13 +29,13 @@ enum Outlook {
 }
 
 impl<J: Job> Board<J> {
-    /// Claims a note that is Available, as `claim` does, or looks for one until all have begun or its patience is at an
-    /// end. None only ever comes after a claim that tried each note and found it otherwise.
+    /// Claims a note that is Available, as `claim` does, or looks for one until all notes have begun or its
+    /// patience has run out. It returns None only after a claim that tried each note and found it otherwise.
     pub fn await_claim(&self, seat: &mut BoardSeat<J>, patience: Patience) -> Option<u32>
         requires seat { IsSeatOf J.means (plan self.now) (name self.now) seat.old }
         requires idle { IsIdle (view seat.old) }
         ensures seat { IsSeatOf J.means (plan self.now) (name self.now) seat.new }
-        // The note is this seat's, with the cells that the serial run has before it.
+        // The claimed note belongs to this seat; its cells are the ones that the serial run has before it.
         ensures some { IfSome result (λ t. IsClaimed J.means (view seat.new)
             × (note_of (view seat.new) ≡ t) × (t < (plan self.now).notes)) }
         ensures none { IfNone result (IsIdle (view seat.new) × ((view seat.new).owes ≡ [])
@@ -65,7 +66,7 @@ impl<J: Job> Board<J> {
         None
     }
 
-    /// A further claim, where a look found a note that is Available.
+    // Claims again if a look found a note that is Available.
     fn claim_seen(&self, seat: &mut BoardSeat<J>, seen: Outlook) -> Option<u32>
         requires seat { IsSeatOf J.means (plan self.now) (name self.now) seat.old }
         requires idle { IsIdle (view seat.old) }
@@ -83,7 +84,7 @@ impl<J: Job> Board<J> {
         None
     }
 
-    /// Looks at the status of each note from this one on, without a step on any. None before it waits.
+    // Looks at the status of each note from `from` on, without a step on any word. No note before it waits.
     fn outlook(&self, from: u32) -> Outlook {
         let mut outlook = Outlook::Begun;
         for note in from..self.notes {
@@ -100,7 +101,7 @@ impl<J: Job> Board<J> {
 }
 
 impl Patience {
-    /// Between this look and the next.
+    // Pauses between look number `look` and the next one.
     fn pause(self, look: u32) {
         if look < self.brisk {
             hint::spin_loop();

@@ -1,5 +1,5 @@
--- A cycle was played where its jobs and cells are those of the serial run, of which the laws are given, and the desk is
--- as large as before.
+-- A cycle was played if its jobs and cells are as the serial run leaves them, the laws of rows are given, and
+-- the desk is as large as before.
 use Rattle.std.proofs.Common.{arith, ◌≡◌, List, length, map}
 use Rattle.std.proofs.lemmas.Grind.{common_steps}
 use Rattle.cs_cells.proofs.SerialRun.{length-serial_jobs}
@@ -17,7 +17,7 @@ pub was_played : {J K : Type 0} (M : Meaning K) (desk : Desk J) (given played : 
 was_played M desk given played rested feet layouts long jobs left over notes words =
     grind (arith, common_steps, length-serial_jobs)
 
--- a cycle over a desk that has the same cells, layout and room is one over the desk itself
+-- a cycle on a desk with the same cells, layout and room is one on the desk itself
 pub played_over : {J K : Type 0} (M : Meaning K) (desk same : Desk J) (given played : List K) (rested : Desk J)
     → cells same ≡ cells desk → areas same ≡ areas desk
     → note_room same ≡ note_room desk → word_room same ≡ word_room desk

@@ -1,4 +1,4 @@
--- The end of a cycle: what a board at rest has, and what the next cycle finds.
+-- The end of a cycle: the state of a board at rest, and what the next cycle finds.
 use Rattle.std.proofs.lemmas.{Grind.common_steps, Option.same_Some, Option.slice_get_within, Option.slice_get-get_or}
 use Rattle.std.proofs.Common.{◌≡◌, ℕ, zero, suc, ◌+◌, ◌<◌, ◌≤◌, List, [], ◌∷◌, ◌++◌, map, length, get_or, take, drop}
 use Rattle.std.proofs.Common.{false, Some, None, refl, sym, ap, ◌∙◌, subst, arith, slice_get}
@@ -47,7 +47,7 @@ module _ {J : Type 0} (M : Meaning J) (F : Frames M) (k : Plan J) (whole : IsPla
   pub left_low : (t end : ℕ) → t < end → end ≡ k.notes → t < length left_jobs
   left_low t end l is = omega (arith, left_long, l, is)
 
-  -- the job that a note leaves has the note's footprint
+  -- the job after a note has the note's footprint
   pub left_writes : (t : ℕ) (j : J) → slice_get left_jobs t ≡ Some j → (M.foot j).writes ≡ places_written M k t
   left_writes t j at_ =
       let low : t < length k.jobs =
@@ -58,12 +58,12 @@ module _ {J : Type 0} (M : Meaning J) (F : Frames M) (k : Plan J) (whole : IsPla
       ∙ map_at M.foot k.jobs t i.0 i.1 in
       ap (λ z. z.writes) (same_Some _ _ same_) ∙ ap (writes_of M) (sym i.1)
 
-  -- no note past the last writes
+  -- no note after the last one writes
   pub none_past : (u r : ℕ) → length left_jobs ≤ u → listed (places_written M k u) r ≡ false
   none_past u r l = ap (λ o. listed (writes_of M o) r)
       (past k.jobs u (omega (arith, l, length-serial_jobs M k.jobs k.cells)))
 
-  -- the next of the places that a note writes
+  -- the next of the resources that a note writes
   pub next_written : (t : ℕ) (items : List ℕ) (i : ℕ) → items ≡ places_written M k t → i < length items
       → (get_or items i 0 < area_count k)
       × (drop i (places_written M k t) ≡ get_or items i 0 ∷ drop (i + 1) (places_written M k t))

@@ -1,4 +1,4 @@
--- A cycle is laid out on a board that rests, and its jobs and turns are cleared away after it.
+-- A cycle is laid out on a board that rests, and its jobs and turns are cleared after it.
 use Rattle.std.proofs.lemmas.{Grind.common_steps, Bool.cases_Bool, Bool.cases_eq, Bool.or_cases, Option.same_Some}
 use Rattle.std.proofs.Common.{◌≡◌, ◌≢◌, ℕ, zero, suc, ◌+◌, ◌-◌, ◌<◌, ◌≤◌, inl, inr, ⊎_elim, List, [], ◌∷◌, ◌++◌, map}
 use Rattle.std.proofs.Common.{length, take, drop, set, replicate, true, false, Option, Some, refl, sym, ap, ◌∙◌, arith}
@@ -21,7 +21,7 @@ use Rattle.cs_board.proofs.AllWords.{set_status, set_own, set_watch, set_turn, s
 use Rattle.cs_board.proofs.{Lists.put_cases, Opening.length-each_below, Opening.at_each_below}
 
 module _ {A : Type 0} where
-  -- what lies behind t equal elements
+  -- the element after t equal ones
   pub middle_get : (t : ℕ) (v x : A) (ys : List A) → slice_get (replicate t v ++ x ∷ ys) t ≡ Some x
   middle_get zero v x ys = refl
   middle_get (suc t) v x ys = middle_get t v x ys
@@ -52,7 +52,7 @@ module _ {J : Type 0} where
   row_next : (t : ℕ) (js : List J) (n : ℕ) → slot_row (t + 1) js n ≡ replicate t empty ++ empty ∷ after js n
   row_next t js n = grind (arith, common_steps, one_more, replicate)
 
-  -- the slot before the jobs is vacant, and has the next one then
+  -- the slot before the jobs is vacant, and then receives the next job
   pub row_vacant : (t : ℕ) (js : List J) (n : ℕ) → slice_get (slot_row (t + 1) js n) t ≡ Some (Some Vacant)
   row_vacant t js n = ap (λ l. slice_get l t) (row_next t js n) ∙ middle_get t empty empty (after js n)
 
@@ -62,7 +62,7 @@ module _ {J : Type 0} where
       ∙ middle_set t empty empty (Some (Full j)) (after (drop (t + 1) js) n)
       ∙ ap (λ l. slot_row t l n) (sym (drop_one js t j e))
 
-  -- the first of the jobs lies there, and the slot is vacant once it is taken
+  -- the first of the jobs is in the slot, and the slot is vacant after it is taken
   pub row_full : (t : ℕ) (js : List J) (n : ℕ) (j : J) → slice_get js t ≡ Some j
       → slice_get (slot_row t (drop t js) n) t ≡ Some (Some (Full j))
   row_full t js n j e = ap (λ l. slice_get (slot_row t l n) t) (drop_one js t j e)
@@ -93,7 +93,7 @@ module _ {J : Type 0} where
   row_long zero (j ∷ js) n = let h : length (slot_row 0 js n) ≡ 0 + (length js + n) = row_long 0 js n in omega arith
   row_long (suc t) js n = let h : length (slot_row t js n) ≡ t + (length js + n) = row_long t js n in omega arith
 
--- how many words there are
+-- the number of words
 pub words_long : (w : Words)
     → length (all_words w)
     ≡ 1 + (length w.cells + (length w.turns + (length w.status + (length w.own + (length w.watch + length w.spare)))))
@@ -155,7 +155,7 @@ module _ {J : Type 0} (k : Plan J) where
   laid_plan e w areas graph h areas_is edges_is jobs_is cells_is =
       grind (arith, common_steps, laid_row, sized_long, take-append_seam)
 
--- what is cleared can be laid out
+-- what was cleared can be laid out
 module _ {J : Type 0} (areas : List Area) (w : Still J) (graph : Dependencies) (jobs : List J)
     (words_made slots_made : ℕ) (h : IsCleared areas words_made slots_made w)
     (slots : length jobs ≤ slots_made) (words : wide areas (length jobs) (length graph.edges) ≤ words_made) where
@@ -289,7 +289,7 @@ module _ {J : Type 0} (M : Meaning J) (k : Plan J) where
       → slice_get w.homes t ≡ Some (Some (Full j))
   full_next t j w at_ h = ap (λ l. slice_get l t) h.homes ∙ row_full t left_jobs h.left j at_
 
-  -- what is cleared of all notes
+  -- all notes are cleared
   pub all_cleared : (w : Still J) (words_made slots_made : ℕ) → IsClearing M k (length left_jobs) w
       → length k.cells ≡ word_count k.areas → word_total k + k.spare ≡ words_made → length w.homes ≡ slots_made
       → ((u r : ℕ) → length left_jobs ≤ u → listed (places_written M k u) r ≡ false)

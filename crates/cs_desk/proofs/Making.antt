@@ -1,4 +1,4 @@
--- A desk as it is made.
+-- A new desk.
 use Rattle.std.proofs.lemmas.{Grind.common_steps, Bool.cases_lt, Bool.lt-ltb}
 use Rattle.std.proofs.Common.{◌≡◌, ℕ, ◌+◌, ◌≤◌, List, [], ◌∷◌, ◌++◌, length, replicate, Some, None, nat_lt, refl, sym}
 use Rattle.std.proofs.Common.{ap, ◌∙◌, subst, arith, is_some, length-append}

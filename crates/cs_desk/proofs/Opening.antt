@@ -1,4 +1,4 @@
--- What is known of the plan of a cycle that a desk opens.
+-- What is known about the plan of a cycle that a desk opens.
 use Rattle.std.proofs.lemmas.{Grind.common_steps, List.append_assoc, List.length-map}
 use Rattle.std.proofs.Common.{◌≡◌, ℕ, ◌-◌, ◌≤◌, List, [], ◌∷◌, ◌++◌, map, length, drop, Some, refl, sym, ap, ◌∙◌, subst}
 use Rattle.std.proofs.{Common.arith, Common.slice_get, Math.Seq.drop-append_seam}
@@ -48,7 +48,7 @@ pub popped : {A : Type 0} (X jobs others : List A) (job : A) → (jobs ++ job �
 popped X jobs others job e = grind (arith, common_steps, append_assoc, drop-append_seam, got)
 
 module _ {J : Type 0} where
-  -- the plan of a desk with so many words
+  -- the plan of a desk with this number of words
   abbrev desk_plan : List Area → Still J → ℕ → Dependencies → List J → Plan J
   desk_plan areas w words graph jobs = record {
     notes = length jobs;
@@ -59,7 +59,7 @@ module _ {J : Type 0} where
     spare = words - wide areas (length jobs) (length graph.edges);
   }
 
-  -- what was laid out goes by a graph that was lent, which is the cycle's
+  -- what was laid out follows a graph that was lent, which is the cycle's
   module _ (areas a1 : List Area) (w w1 : Still J) (lent graph : Dependencies) (jobs : List J) (same : lent ≡ graph)
       (same_areas : a1 ≡ areas) (h : IsLaying (plan_over areas w lent jobs) 0 (length lent.edges) w1)
       (cells : length (cells_laid areas w) ≡ word_count areas) where
@@ -74,7 +74,7 @@ module _ {J : Type 0} where
     pub begin_laid : IsLaying (plan_laid a1 w1 graph) 0 (length graph.edges) w1
     begin_laid = subst (λ k. IsLaying k 0 (length graph.edges) w1) (sym laid_over) laid_now
 
-    -- the plan that is laid out is the one that the desk had
+    -- the plan that is laid out is the desk's plan
     pub begin_plan : (words : ℕ) → length w.words ≡ words → plan_laid a1 w1 graph ≡ desk_plan areas w words graph jobs
     begin_plan words count = laid_over
         ∙ ap (λ n. record (plan_over areas w graph jobs) { spare = n - wide areas (length jobs) (length graph.edges) })

@@ -1,4 +1,4 @@
--- Cells that lie in words.
+-- Cells in words.
 use Rattle.std.proofs.Common.{◌≡◌, ◌<◌, ℕ, zero, suc, List, [], ◌∷◌, length, Some, slice_get, refl, arith}
 use Rattle.std.specs.Prelude.{slice_index}
 use Rattle.cs_cells.specs.Cells.{signed, values}

@@ -1,4 +1,4 @@
--- Jobs that run one by one over a desk's cells.
+-- Jobs that run one by one on a desk's cells.
 use Rattle.std.proofs.Common.{arith, ◌≡◌, ℕ, ◌<◌, List, true, subst}
 use Rattle.std.proofs.lemmas.{Grind.common_steps, Bool.or_cases}
 use Rattle.cs_cells.specs.{Access.Allows, Access.full_access, Areas.IsLaid, Areas.word_count, Cells.covers}
@@ -7,7 +7,7 @@ use Rattle.cs_cells.specs.Meaning.{Meaning, Uses, Writes}
 use Rattle.cs_cells.proofs.Laid.{covered_below}
 
 module _ {J : Type 0} (M : Meaning J) where
-  -- what a job uses or writes lies among the cells of its layout
+  -- a cell that a job uses or writes is one of its layout
   used_below : (areas : List Area) (j : J) (a : ℕ) → IsLaid areas → M.areas j ≡ areas → Uses M j a
       → a < word_count areas
   used_below areas j a laid e u = grind (arith, common_steps, covered_below, or_cases)

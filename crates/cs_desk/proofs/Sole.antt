@@ -49,7 +49,7 @@ module _ {J : Type 0} where
       → s'.me ≡ (laid s.me.0 w, []) → IsSole id s'
   sole_after id s s' w h table me = grind (arith, common_steps, is_some)
 
-  -- what is vacant is a row of vacant slots
+  -- vacant slots are a list of vacant slots
   pub cleared_homes : (w : Still J) (slots : ℕ) → all_vacant w.homes ≡ true → length w.homes ≡ slots
       → w.homes ≡ replicate slots (Some Vacant)
   cleared_homes w slots v l = go w.homes v ∙ ap (λ n. replicate n (Some Vacant)) l
@@ -144,7 +144,7 @@ module _ {J : Type 0} where
   sets_cell areas words slots w a x h low =
       ap values (cleared_set areas words slots w a x h low).0 ∙ map-set signed (cells_laid areas w) a x
 
--- What the steps of a board that rests tell. s is the seat before them, n the seat after a step.
+-- What the steps of a board that rests let its seat know. s is the seat before them, n the seat after a step.
 module _ {J : Type 0} (id : TableId) (s : Seat (Berth J) (View J)) (h : IsSole id s) where
   pub told_laid : (n : Sat J) (slots i x : ℕ) → lays (step slots i x 0 none) s.me x n
       → n ≡ (laid s.me.0 (with_word (known_in s) i x), [])
@@ -160,7 +160,7 @@ module _ {J : Type 0} (id : TableId) (s : Seat (Berth J) (View J)) (h : IsSole i
         told (known_in s) b (sole_knows id s h) lies ∙ ap (λ z. (laid s.me.0 taken, (t, b) ∷ z)) (sole_carries id s h)
 
     module _ (n : Sat J) (reached : n ≡ (laid s.me.0 taken, (t, b) ∷ [])) where
-      -- what was in the slot, and what the seat carries then
+      -- the earlier content of the slot, and what the seat carries then
       pub swapped : (x y : Berth J) (m : Sat J) → n.1 ≡ (t, x) ∷ rest n.1 → m ≡ (n.0, (t, y) ∷ rest n.1)
           → (x ≡ b) × (m ≡ (laid s.me.0 taken, (t, y) ∷ []))
       swapped x y m found given = grind (arith, common_steps)
@@ -184,7 +184,7 @@ module _ {J : Type 0} (id : TableId) (s : Seat (Berth J) (View J)) (h : IsSole i
           ∙ ap (λ l. (laid s.me.0 (record { words = (known_in s).words; homes = l }), no_slot))
           (set_twice (known_in s).homes t None (Some x))
 
-    -- a slot that is reached, has its berth exchanged for y, and is left
+    -- a slot's content is taken, exchanged for y, and put back
     pub exchanged : (n m p : Sat J) (slots r q : ℕ) (x y : Berth J) → reaches (step slots t 0 0 none) s.me r n
         → n.1 ≡ (t, x) ∷ rest n.1 → m ≡ (n.0, (t, y) ∷ rest n.1) → leaves (step slots 0 0 0 none) m q p
         → p ≡ (laid s.me.0 (with_home (known_in s) t (Some y)), [])

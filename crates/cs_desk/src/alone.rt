@@ -1,4 +1,4 @@
-// A cycle by the caller alone.
+// A cycle that the caller runs without a crew.
 ghost use Rattle.std.specs.Prelude.{◌≡◌, ◌<◌, length};
 
 use crate::desk::Desk;
@@ -9,19 +9,19 @@ use cs_edge::Gate;
 use cs_row::run_in_order;
 use std::alloc::Global;
 
-/// How many cells may be moved into plain memory for each note that the caller ran alone since the last board: each has
-/// to go back by an atomic store before the next board.
+// The number of cells that may be moved into plain memory for each note that the caller ran without a board
+// since the last one: each cell has to go back with an atomic store before the next board.
 const CELLS_A_NOTE: u32 = 16;
 
 impl<J: Job> Desk<J> {
     ghost use Rattle.cs_desk.specs.Cycles.{AreOver, WasPlayed};
     ghost use Rattle.cs_desk.specs.Desk.{areas, cells, note_room, word_room};
 
-    /// Runs the notes of a control cycle, `notes` in number, one by one in serial order over the
-    /// desk's cells, which nobody else can reach, and returns a receipt with their jobs. There is no
-    /// board: nothing is claimed, laid or cleared, and nobody is waited for. Where cycle after cycle is run so
-    /// the cells come to lie in plain memory, unless there is none: then they stay where they are.
-    /// `gate` is called with `cycle` and the note's place before each note is run.
+    /// Runs the `notes` notes of a control cycle one by one in serial order on the desk's cells, which no
+    /// other thread can reach, and returns a receipt with their jobs. There is no board: nothing is claimed,
+    /// laid or cleared, and the caller waits for no other thread. After enough such cycles in succession the
+    /// cells move into plain memory, or stay in the words if memory runs out. `gate` is called with `cycle`
+    /// and the note's index before each note is run.
     pub fn run_alone<K: Job, G: Gate>(
         &mut self,
         cycle: u32,
@@ -39,8 +39,8 @@ impl<J: Job> Desk<J> {
         Receipt { notes, jobs }
     }
 
-    /// `notes` notes more in a row are the caller's alone; after enough of them, by the number of cells, the cells are
-    /// moved into plain memory.
+    // Counts `notes` more notes that the caller runs without a board in succession; after enough of them,
+    // compared with the number of cells, the cells are moved into plain memory.
     fn loosen(&mut self, alloc: Global, notes: u32)
         ensures cells { cells self.new ≡ cells self.old }
         ensures areas { areas self.new ≡ areas self.old }

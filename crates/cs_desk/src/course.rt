@@ -1,4 +1,4 @@
-// The graph of what runs in a cycle, which is kept as long as the same is touched.
+// The graph of the jobs of a cycle, which is reused while their footprints stay the same.
 ghost use Rattle.cs_base.specs.Limits.{most_notes};
 ghost use Rattle.std.specs.Prelude.{◌≡◌, ◌≤◌, map, length, true, IfOk, OnErr, OnOk};
 ghost use Rattle.cs_desk.specs.Courses.{IsCourseOf};
@@ -17,7 +17,8 @@ pub struct Course {
 }
 
 impl Course {
-    /// Builds that of jobs with these footprints, in serial order, at most as many as a cycle may have notes.
+    /// Builds the course of jobs with these footprints, in serial order; there are at most as many as a cycle
+    /// may have notes.
     pub fn of_feet(alloc: Global, feet: Vec<Footprint>) -> Result<Course, OutOfMemory>
         requires { length feet.items ≤ most_notes }
         ensures { IfOk result (IsCourseOf feet.items) }
@@ -26,8 +27,8 @@ impl Course {
         Ok(Course { graph, feet })
     }
 
-    /// Becomes the course of jobs with these footprints, unless it is that already. It stays as it is where there is no
-    /// memory.
+    /// Becomes the course of jobs with these footprints, unless it is already. If memory runs out it stays
+    /// unchanged.
     pub fn follow(&mut self, alloc: Global, feet: Vec<Footprint>) -> Result<(), OutOfMemory>
         requires few { length feet.items ≤ most_notes }
         requires course { IsCourseOf self.old.feet.items self.old }
@@ -41,7 +42,7 @@ impl Course {
     }
 }
 
-/// Whether these footprints are those that were kept.
+// Returns whether these footprints equal the stored ones.
 fn are_same(kept: &[Footprint], feet: &[Footprint]) -> bool
     ensures { result ≡ true → feet.now ≡ kept.now }
 {
@@ -56,7 +57,7 @@ fn are_same(kept: &[Footprint], feet: &[Footprint]) -> bool
     true
 }
 
-/// Copies of the footprints of jobs.
+/// Returns copies of the jobs' footprints.
 pub fn feet_of<J: Job>(alloc: Global, jobs: &[J]) -> Result<Vec<Footprint>, AllocError>
     ensures { IfOk result (λ feet. feet.items ≡ map J.means.foot jobs.now) }
 {

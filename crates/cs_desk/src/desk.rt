@@ -1,4 +1,4 @@
-// What stands between two cycles.
+// The state between two cycles.
 ghost use Rattle.std.specs.Prelude.{◌≡◌, ◌≤◌, ◌<◌, ◌+◌, ℕ, length, map, IfOk};
 ghost use Rattle.std.specs.{List.range_with_len, Option.ForSome};
 ghost use Rattle.cs_cells.specs.{Areas.word_count, Cells.cell, Cells.values, Cells.with_row};
@@ -10,14 +10,15 @@ use cs_base::{Num, OutOfMemory};
 use cs_cells::{Bank, Job, Layout};
 use std::alloc::Global;
 
-/// The words and slots of a performance, with the cells of the piece, while no board is played. While cycles are the
-/// caller's alone the cells lie in plain memory, where a look or a set is no atomic step, and those in the table's
-/// words are of no account.
+/// The words and slots of a performance, with the cells of the piece, while no board is played. While the
+/// caller runs cycles without a crew the cells are in plain memory, where reading or setting one is no atomic
+/// step; the cells in the table's words don't count then.
 #[derive(Drop)]
 pub struct Desk<J: Job> {
     pub(crate) resting: RestingTable<J>,
     pub(crate) plain: Option<Vec<Num>>,
-    /// How many notes in a row the caller ran alone while the cells lay in the table's words.
+    /// The number of notes in succession that the caller ran without a board while the cells were in the
+    /// table's words.
     pub(crate) alone: u32,
     ghost long: { ForSome plain (λ numbers. length numbers.items ≡ word_count (layout_of resting)) },
 }
@@ -26,7 +27,8 @@ impl<J: Job> Desk<J> {
     ghost use Rattle.cs_board.specs.Resting.{wide};
     ghost use Rattle.cs_desk.specs.Desk.{areas, cells, note_room, word_room};
 
-    /// A desk over this layout, with a word for each cell, and with room for cycles of `notes` notes and `edges` edges.
+    /// Makes a desk for this layout, with one word for each cell, and with room for cycles of `notes` notes
+    /// and `edges` edges.
     pub fn new(
         alloc: Global,
         layout: &Layout,
@@ -43,7 +45,8 @@ impl<J: Job> Desk<J> {
         Desk::over(alloc, layout, numbers_in(alloc, words)?, notes, edges)
     }
 
-    /// A desk over this layout, with these cells, and with room for cycles of `notes` notes and `edges` edges.
+    /// Makes a desk for this layout, with these cells, and with room for cycles of `notes` notes and `edges`
+    /// edges.
     pub(crate) fn over(
         alloc: Global,
         layout: &Layout,
@@ -66,12 +69,13 @@ impl<J: Job> Desk<J> {
     }
 }
 
-/// Between two cycles a note's beginning, or the making of a table, reads and sets cells; in a cycle that is the
-/// caller's alone each note does.
+/// The cells are read and set between two cycles, when a note begins or a table is made, and by the notes of
+/// a cycle that runs without a board.
 impl<J: Job> Bank for Desk<J> {
-    ghost use Rattle.cs_desk.specs.Desk.{Standing, standing, access_of, cells, count_is};
+    ghost use Rattle.cs_desk.specs.Desk.{Standing, standing, access_of, cells};
+    ghost use Rattle.cs_desk.specs.inner.Counted.{count_is};
 
-    // The table with its rooms, and the layout.
+    // The table with its sizes, and the layout.
     ghost Rest = { Standing };
 
     ghost rest = { standing };
@@ -111,27 +115,31 @@ impl<J: Job> Bank for Desk<J> {
     ghost counted = { count_is };
 }
 
-/// A row takes the numbers from a place on.
-#[inline(always)]
+// Copies the numbers from index `first` on into a row.
+#[inline(never)]
 fn copy_from(numbers: &[Num], first: usize, row: &mut [Num])
     requires there { (j : ℕ) → j < length row.old → first + j < length numbers.now }
     requires small { first + length row.old ≤ 65536 }
     ensures { row.new ≡ map (cell numbers.now) (range_with_len first (length row.old)) }
 {
-    for j in 0..row.len() {
-        row[j] = numbers[first + j];
+    // No clause bounds where an empty row begins.
+    if row.is_empty() {
+        return;
     }
+    row.copy_from_slice(&numbers[first..first + row.len()]);
 }
 
-/// The numbers from a place on become those of a row.
-#[inline(always)]
+// Copies a row over the numbers from index `first` on.
+#[inline(never)]
 fn copy_into(numbers: &mut [Num], first: usize, row: &[Num])
     requires there { (j : ℕ) → j < length row.now → first + j < length numbers.old }
     requires small { first + length row.now ≤ 65536 }
     ensures cells { cell numbers.new ≡ with_row first (length row.now) (cell row.now) (cell numbers.old) }
     ensures long { length numbers.new ≡ length numbers.old }
 {
-    for j in 0..row.len() {
-        numbers[first + j] = row[j];
+    // No clause bounds where an empty row begins.
+    if row.is_empty() {
+        return;
     }
+    numbers[first..first + row.len()].copy_from_slice(row);
 }

@@ -1,4 +1,4 @@
-// The beginning of a cycle.
+// The start of a cycle.
 ghost use Rattle.std.specs.{Option.ForSome, Vec.vec_capacity};
 ghost use Rattle.std.specs.Prelude.{◌≡◌, ◌+◌, ◌*◌, ◌<◌, ◌≤◌, ◌^◌, [], Some, length, slice_get};
 ghost use Rattle.cs_board.specs.Resting.{IsSole, IsLaying, areas_in, known_in};
@@ -23,9 +23,9 @@ impl<J: Job> Desk<J> {
     ghost use Rattle.cs_board.specs.Board.{plan, name, view, graph_of, IsSeatOf};
     ghost use Rattle.cs_desk.specs.{Cycles.IsCycle, Desk.note_room, Desk.word_room, Desk.plan_from};
 
-    /// The board of a cycle, and its first seat, at the cost of the cycle's notes and edges, and of the cells where
-    /// they lay in plain memory. `graph` is that of the jobs' footprints, and the desk's layout that of each job. It
-    /// takes no memory, and so it can't fail.
+    /// Returns the board of a cycle and its first seat. The cost is proportional to the cycle's notes and
+    /// edges, plus the cells if they were in plain memory. `graph` is the graph of the jobs' footprints, and
+    /// each job has the desk's layout. It allocates nothing, so it can't fail.
     pub fn open(self, graph: Arc<Graph, Global>, jobs: Vec<J>) -> (Board<J>, BoardSeat<J>)
         requires { IsCycle J.means graph.value self jobs.items }
         ensures plan { plan result.0 ≡ plan_from self graph.value jobs.items }
@@ -46,7 +46,7 @@ impl<J: Job> Desk<J> {
     }
 }
 
-/// The table with the cells in its words, wherever they lay.
+// Returns the table with the cells in its words, after copying them from plain memory if they are there.
 fn settled<J: Job>(resting: RestingTable<J>, plain: Option<Vec<Num>>) -> RestingTable<J>
     requires { ForSome plain (λ numbers. length numbers.items ≡ word_count (layout_of resting)) }
     ensures cells { cells_in result ≡ cells_now plain (cells_in resting) }
@@ -64,7 +64,7 @@ fn settled<J: Job>(resting: RestingTable<J>, plain: Option<Vec<Num>>) -> Resting
 impl<J: Job> RestingTable<J> {
     ghost use Rattle.cs_board.specs.Board.{plan, name, view, graph_of, IsSeatOf};
 
-    /// The board of a cycle whose plan fits.
+    // Returns the board of a cycle whose plan fits, and its first seat.
     fn begin(self, graph: Arc<Graph, Global>, jobs: Vec<J>) -> (Board<J>, BoardSeat<J>)
         requires notes { length graph.value.levels ≡ length jobs.items }
         requires whole { IsPlan J.means (plan_at self graph.value jobs.items) }
@@ -87,8 +87,8 @@ impl<J: Job> RestingTable<J> {
     }
 }
 
-/// Lays the words of the cycle, of which the first status has this number, and the jobs into their
-/// slots. Returns the emptied vector of the jobs.
+// Lays the words of the cycle, and the jobs into their slots; the word of the first status has number
+// `first`. Returns the emptied vector of the jobs.
 fn lay_cycle<J: Job>(
     table: &Berths<J>,
     seat: &mut Sitting<J>,
@@ -124,7 +124,7 @@ fn lay_cycle<J: Job>(
     jobs
 }
 
-/// Lays a note's status at the opening and its own turn, and its job into its slot.
+// Lays a note's first status and its own turn word, and its job into its slot.
 fn lay_note<J: Job>(
     table: &Berths<J>,
     seat: &mut Sitting<J>,
@@ -154,7 +154,7 @@ fn lay_note<J: Job>(
     lay(table, seat, first + graph.len() as usize + note as usize, 0);
 }
 
-/// A job goes into its slot while the board rests.
+// Puts a job into its slot while the board rests.
 fn put_job<J: Job>(table: &Berths<J>, seat: &mut Sitting<J>, note: u32, job: J)
     requires sole { IsSole table.now.shared.table_id seat.old }
     requires vacant { slice_get (known_in seat.old).homes note ≡ Some (Some Vacant) }
@@ -167,7 +167,7 @@ fn put_job<J: Job>(table: &Berths<J>, seat: &mut Sitting<J>, note: u32, job: J)
     let Berth::Vacant = held else { unreachable!() };
 }
 
-/// Available for a note that waits for none, else Waiting.
+// Returns Available for a note that waits for none, and otherwise Waiting.
 fn opening_status(graph: &Graph, note: u32) -> u64
     requires { note < length graph.now.levels }
     ensures { result ≡ first_status graph.now.edges note }
@@ -180,7 +180,7 @@ fn opening_status(graph: &Graph, note: u32) -> u64
     }
 }
 
-/// Watched for the first edge into a note, else Idle.
+// Returns Watched for the first edge into a note, and otherwise Idle.
 fn opening_watch(graph: &Graph, edge: u32) -> u64
     requires { edge < length graph.now.edges }
     ensures { result ≡ first_watch graph.now.edges edge }
@@ -190,7 +190,7 @@ fn opening_watch(graph: &Graph, edge: u32) -> u64
     if into.start == edge { WATCHED } else { IDLE }
 }
 
-/// It does nothing: looks tell what is true of each job that code holds.
+// For the prover: it does nothing as it runs. Each job that code holds is valid.
 fn hear<J: Job>(jobs: &[J])
     ensures { AllValid J.means jobs.now }
 {

@@ -1,4 +1,4 @@
-// Cells in plain memory, and their way there and back.
+// Cells in plain memory, and how they get there and back.
 ghost use Rattle.std.specs.Prelude.{◌≡◌, ◌<◌, ℕ, length, IfOk};
 ghost use Rattle.cs_cells.specs.Cells.{values};
 
@@ -6,7 +6,7 @@ use cs_base::Num;
 use cs_cells::Bank;
 use std::alloc::{AllocError, Global};
 
-/// The numbers that words hold.
+/// Returns the numbers that words encode.
 pub(crate) fn numbers_in(alloc: Global, words: &[u64]) -> Result<Vec<Num>, AllocError>
     ensures { IfOk result (λ numbers. numbers.items ≡ values words.now) }
 {
@@ -17,7 +17,7 @@ pub(crate) fn numbers_in(alloc: Global, words: &[u64]) -> Result<Vec<Num>, Alloc
     Ok(numbers)
 }
 
-/// The cells of a bank, which has `count` of them.
+/// Returns the numbers in the `count` cells of a bank.
 pub(crate) fn numbers_of<B: Bank>(
     alloc: Global,
     bank: &mut B,
@@ -36,7 +36,7 @@ pub(crate) fn numbers_of<B: Bank>(
     Ok(numbers)
 }
 
-/// The cells of a bank, which has `count` of them, become these numbers.
+/// Sets the `count` cells of a bank to these numbers.
 pub(crate) fn fill<B: Bank>(bank: &mut B, numbers: &[Num], count: u32)
     requires set { (a : ℕ) → a < count → (B.access (B.rest bank.old)).can_set a }
     requires cells { length (B.cells bank.old) ≡ count }

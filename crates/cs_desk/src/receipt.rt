@@ -1,4 +1,4 @@
-// What a cycle leaves, and how many cycles and notes there were.
+// The result of a cycle, and the totals of cycles and notes.
 ghost use Rattle.std.specs.Prelude.{◌≡◌, ◌+◌, ◌≤◌, ◌<◌, ◌^◌, [], length, All};
 ghost use Rattle.std.specs.Vec.{vec_capacity};
 ghost use Rattle.cs_row.specs.{Kept.CutAlike, Laws.all_notes};
@@ -7,8 +7,8 @@ use cs_cells::Job;
 use cs_row::{Heard, Row, Rows};
 use std::marker::Model;
 
-/// The jobs of a cycle after all its notes, in serial order. `Desk::rest` and `Desk::run_alone` alone make one.
-/// Contracts see the list of the jobs.
+/// The jobs of a cycle after all its notes have run, in serial order. Only `Desk::rest` and `Desk::run_alone`
+/// make one. Contracts see the list of the jobs.
 pub struct Receipt<J> {
     pub(crate) notes: u32,
     pub(crate) jobs: Vec<J>,
@@ -25,14 +25,14 @@ impl<J> Model for Receipt<J> {
 }
 
 impl<J> Receipt<J> {
-    /// The number of notes.
+    /// Returns the number of notes.
     pub fn notes(&self) -> u32
         ensures { result ≡ length self.now }
     {
         self.notes
     }
 
-    /// The jobs, in serial order.
+    /// Returns the jobs, in serial order.
     pub fn jobs(&self) -> &[J]
         ensures { result.now ≡ self.now }
     {
@@ -41,8 +41,8 @@ impl<J> Receipt<J> {
 }
 
 impl<'g, J: Heard + Drop, G> Receipt<Row<'g, J, G>> {
-    /// The receipt of the notes of these rows. They come into `notes`, where there is room for them, and the memory of
-    /// the rows into `kept`.
+    /// Returns the receipt of the notes in these rows. The notes move into `notes`, which has room for them,
+    /// and the memory of the rows into `kept`.
     pub fn unrow(self, mut notes: Vec<J>, kept: &mut Rows<'g, J, G>) -> Receipt<J>
         requires empty { notes.items ≡ [] }
         requires room { length (all_notes self) ≤ vec_capacity notes }
@@ -63,7 +63,7 @@ impl<'g, J: Heard + Drop, G> Receipt<Row<'g, J, G>> {
     }
 }
 
-/// How many cycles were played to their end, and how many notes they had. `add` alone changes one.
+/// The number of cycles that were played to their end, and the number of their notes. Only `add` changes one.
 #[derive(Debug, Drop)]
 pub struct Tally {
     cycles: u64,
@@ -71,7 +71,7 @@ pub struct Tally {
 }
 
 impl Tally {
-    /// No cycle and no note.
+    /// Makes a tally of no cycles and no notes.
     pub fn new() -> Tally
         ensures { (result.cycles ≡ 0) × (result.notes ≡ 0) }
     {
@@ -81,7 +81,7 @@ impl Tally {
         }
     }
 
-    /// Counts the cycle and its notes, and hands back its jobs.
+    /// Counts the cycle and its notes, and returns its jobs.
     pub fn add<J: Job>(&mut self, receipt: Receipt<J>) -> Vec<J>
         requires room { (self.old.cycles ≤ 2 ^ 63) × (self.old.notes ≤ 2 ^ 63) }
         ensures jobs { result.items ≡ receipt }
@@ -94,14 +94,14 @@ impl Tally {
         jobs
     }
 
-    /// The number of cycles.
+    /// Returns the number of cycles.
     pub fn cycles(&self) -> u64
         ensures { result ≡ self.now.cycles }
     {
         self.cycles
     }
 
-    /// The number of notes of all cycles.
+    /// Returns the number of notes of all cycles.
     pub fn notes(&self) -> u64
         ensures { result ≡ self.now.notes }
     {

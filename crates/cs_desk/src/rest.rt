@@ -20,8 +20,9 @@ use std::sync::Arc;
 impl<J: Job> Desk<J> {
     ghost use Rattle.cs_desk.specs.Desk.{areas, cells, note_room, word_room};
 
-    /// The jobs of the whole cycle, as the serial run leaves them, the desk with the cells as it leaves these, and the
-    /// cycle's graph. The seat is the first one, whose last claim returned None and which has joined every other seat.
+    /// Returns the jobs of the complete cycle as the serial run leaves them, the desk with the cells as the
+    /// serial run leaves them, and the cycle's graph. The seat is the first one; its last claim returned
+    /// None, and it has joined every other seat.
     pub fn rest(board: Board<J>, seat: BoardSeat<J>) -> (Receipt<J>, Desk<J>, Arc<Graph, Global>)
         requires seat { IsSeatOf J.means (plan board) (name board) seat }
         requires idle { IsIdle (view seat) }
@@ -57,8 +58,7 @@ impl<J: Job> Desk<J> {
     }
 }
 
-/// Takes all jobs out of their slots, and puts the turn words that their notes have written back to
-/// 0.
+// Takes all jobs out of their slots, and sets the turn words that their notes have written to 0 again.
 fn clear<J: Job>(board: &Board<J>, seat: &mut Sitting<J>, mut room: Vec<J>) -> Vec<J>
     requires whole { IsPlan J.means (plan board.now) }
     requires sole { IsSole (name board.now) seat.old }
@@ -78,7 +78,7 @@ fn clear<J: Job>(board: &Board<J>, seat: &mut Sitting<J>, mut room: Vec<J>) -> V
     room
 }
 
-/// A job leaves its slot while the board rests.
+// Takes a job out of its slot while the board rests.
 fn fetch<J: Job>(table: &Berths<J>, seat: &mut Sitting<J>, note: u32) -> J
     requires sole { IsSole table.now.shared.table_id seat.old }
     requires full { (j : J) × (slice_get (known_in seat.old).homes note ≡ Some (Some (Full j))) }
@@ -95,7 +95,7 @@ fn fetch<J: Job>(table: &Berths<J>, seat: &mut Sitting<J>, note: u32) -> J
     job
 }
 
-/// The turn words of the resources that a job writes are 0 again.
+// Sets the turn words of the resources that a job writes to 0 again.
 fn clear_turns<J: Job>(board: &Board<J>, seat: &mut Sitting<J>, job: &J, note: u32)
     requires whole { IsPlan J.means (plan board.now) }
     requires note { (J.means.foot job.now).writes ≡ places_written J.means (plan board.now) note }

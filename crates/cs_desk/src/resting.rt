@@ -28,8 +28,8 @@ impl<J: Job> RestingTable<J> {
     ghost use Rattle.cs_desk.specs.inner.Tables.{layout_of, cells_in, slots_in, words_in};
     ghost use Rattle.cs_board.specs.Resting.{wide};
 
-    /// A table over this layout, with one word for each cell, and with room for cycles of
-    /// `notes` notes and `edges` edges. All cells are 0.
+    /// Makes a table for this layout, with one word for each cell, and with room for cycles of `notes` notes
+    /// and `edges` edges. All cells are 0.
     pub(crate) fn new(
         alloc: Global,
         layout: &Layout,
@@ -62,7 +62,7 @@ impl<J: Job> RestingTable<J> {
     }
 }
 
-/// The first word, the cells, and all that a cycle needs, each 0.
+// Returns the words of a table: word 0, the cells, and all words that a cycle needs, each 0.
 fn row_of(alloc: Global, layout: &Layout, notes: u32, edges: u32) -> Result<Vec<u64>, OutOfMemory>
     ensures { IfOk result (λ row. row.items ≡ 0 ∷ each_below (λ a. 0) (word_count layout.now)
         ++ (each_below (λ r. 0) (length layout.now) ++ each_below (λ r. 0) (notes + (notes + edges)))) }
@@ -85,7 +85,7 @@ fn push_zeros(words: &mut Vec<u64>, count: u64) -> Result<(), OutOfMemory>
     Ok(())
 }
 
-/// The number `count` of vacant slots.
+// Returns `count` vacant slots.
 fn vacant_slots<J>(alloc: Global, count: u32) -> Result<Vec<Berth<J>>, OutOfMemory>
     ensures { IfOk result (λ slots. slots.items ≡ replicate count Vacant) }
 {
@@ -96,7 +96,7 @@ fn vacant_slots<J>(alloc: Global, count: u32) -> Result<Vec<Berth<J>>, OutOfMemo
     Ok(slots)
 }
 
-/// Frees vacant slots.
+// Frees vacant slots.
 fn discard<J>(mut slots: Vec<Berth<J>>)
     requires { slots.items ≡ replicate (length slots.items) Vacant }
 {
@@ -106,7 +106,7 @@ fn discard<J>(mut slots: Vec<Berth<J>>)
     slots.destroy_empty();
 }
 
-/// A word is set while the board rests.
+/// Sets a word while the board rests.
 pub(crate) fn lay<J: Job>(table: &Berths<J>, seat: &mut Sitting<J>, word: usize, value: u64)
     requires sole { IsSole table.now.shared.table_id seat.old }
     requires word { word < table.now.shared.table_id.words }
@@ -118,7 +118,7 @@ pub(crate) fn lay<J: Job>(table: &Berths<J>, seat: &mut Sitting<J>, word: usize,
     table.shared.store::<Lay>(seat, word, value);
 }
 
-/// A word is read while the board rests.
+// Reads a word while the board rests.
 fn read<J: Job>(table: &Berths<J>, seat: &mut Sitting<J>, word: usize) -> u64
     requires sole { IsSole table.now.shared.table_id seat.old }
     requires word { word < table.now.shared.table_id.words }
@@ -132,9 +132,10 @@ fn read<J: Job>(table: &Berths<J>, seat: &mut Sitting<J>, word: usize) -> u64
 /// The cells in the words of the table.
 impl<J: Job> Bank for RestingTable<J> {
     ghost use Rattle.cs_desk.specs.Kept.{Standing, access_of};
-    ghost use Rattle.cs_desk.specs.inner.Tables.{standing_of, cells_in, cells_counted};
+    ghost use Rattle.cs_desk.specs.inner.Tables.{standing_of, cells_in};
+    ghost use Rattle.cs_desk.specs.inner.Counted.{cells_counted};
 
-    // The table with its rooms, and the layout.
+    // The table with its sizes, and the layout.
     ghost Rest = { Standing };
 
     ghost rest = { standing_of };
@@ -160,7 +161,7 @@ impl<J: Job> Bank for RestingTable<J> {
     ghost counted = { cells_counted };
 }
 
-/// The berth in a slot gives way to another while the board rests, and comes back.
+/// Exchanges the content of a slot for `berth` while the board rests, and returns the earlier content.
 pub(crate) fn swap<J: Job>(
     table: &Berths<J>,
     seat: &mut Sitting<J>,

@@ -1,4 +1,4 @@
-// How large a cycle may be; a desk that is too small is replaced by a larger one over the same cells.
+// How large a cycle may be; a desk that is too small is replaced by a larger one with the same cells.
 ghost use Rattle.std.specs.Prelude.{◌≡◌, ◌<◌, ◌≤◌, ◌*◌, ◌^◌, length, true, IfOk, OnOk};
 ghost use Rattle.cs_cells.specs.Areas.{word_count};
 ghost use Rattle.cs_desk.specs.Desk.{HasRoom, areas, cells};
@@ -10,7 +10,7 @@ use cs_cells::{Job, Layout};
 use std::alloc::Global;
 
 impl<J: Job> Desk<J> {
-    /// Whether there is room for a cycle of `notes` notes and `edges` edges.
+    /// Returns whether there is room for a cycle of `notes` notes and `edges` edges.
     pub fn has_room(&self, notes: u32, edges: u32) -> bool
         ensures room { result ≡ true → HasRoom self.now notes edges }
         ensures only { HasRoom self.now notes edges → result ≡ true }
@@ -25,7 +25,7 @@ impl<J: Job> Desk<J> {
     }
 }
 
-/// The desk has room for cycles of `notes` notes and `edges` edges, over the same layout and cells.
+/// Makes room in the desk for cycles of `notes` notes and `edges` edges, with the same layout and cells.
 pub fn make_room<J: Job + Drop>(
     alloc: Global,
     layout: &Layout,
@@ -46,7 +46,8 @@ pub fn make_room<J: Job + Drop>(
     Ok(())
 }
 
-/// A desk over the layout and the cells of another, with room for cycles of twice as many notes and edges.
+// Makes a desk with the layout and the cells of another one, and with room for cycles of twice as many notes
+// and edges.
 fn larger<J: Job>(
     alloc: Global,
     layout: &Layout,

@@ -1,4 +1,4 @@
--- The edges of a cycle, chained by the note that they leave.
+-- The edges of a cycle, linked into lists by the note that they leave.
 use Rattle.std.proofs.lemmas.{Grind.common_steps, Bool.cases_eq, List.get_or-replicate, List.length-replicate}
 use Rattle.std.proofs.lemmas.List.{length-set}
 use Rattle.std.proofs.Common.{◌≡◌, ◌≢◌, ℕ, ◌+◌, ◌<◌, ⊎_elim, List, length, get_or, set, sym, ap, ◌∙◌, subst, arith}
@@ -9,7 +9,7 @@ use Rattle.std.proofs.lemmas.Option.{same_Some, slice_get_within}
 use Rattle.cs_graph.specs.Graph.{Edge, IsNextOut, NoneOut}
 use Rattle.cs_graph.specs.inner.Index.{IsChained, Points}
 
--- no edge is chained yet
+-- no edge is linked yet
 pub chained_none : (edges : List (ℕ × ℕ)) (notes : ℕ) (first next : List ℕ) → first ≡ replicate notes (length edges)
     → next ≡ replicate (length edges) (length edges)
     → (length first ≡ notes) × IsChained edges (length edges) first next
@@ -33,7 +33,7 @@ chained_none edges notes first next first_is next_is = rw (first_is, next_is) (
 module _ (edges : List (ℕ × ℕ)) (i from to : ℕ) (edge : Edge edges i from to) (first next : List ℕ)
     (low : from < length first)
     (chained : IsChained edges (i + 1) first next) where
-  -- another note's first edge stays
+  -- another note's first edge is unchanged
   points_on : (p x : ℕ) → p ≢ from → Points edges p (i + 1) x → Points edges p i x
   points_on p x n h = grind (arith, common_steps, same_Some)
 
@@ -66,7 +66,7 @@ module _ (edges : List (ℕ × ℕ)) (i from to : ℕ) (edge : Edge edges i from
             (cases_eq e i);
       }
 
--- what a number stands for, once it is told from none
+-- the edge that a number denotes, unless the number means "none"
 module _ (edges : List (ℕ × ℕ)) (p i x : ℕ) (points : Points edges p i x) where
   pub named_some : (o : Option ℕ) → IfSome o (λ e. (e ≡ x) × (e < length edges)) → IfSome o (IsNextOut edges p i)
   named_some None h = tt

@@ -1,4 +1,4 @@
--- Chains of conflicts, and what the sets at a note say of them.
+-- Chains of conflicts, and how the sets at a note represent them.
 use Rattle.std.proofs.lemmas.{Grind.common_steps, Bool.cases_eq, Bool.cases_lt}
 use Rattle.std.proofs.Common.{◌≡◌, ◌⊎◌, ◌↔◌, ℕ, zero, suc, ◌+◌, ◌<◌, ◌≤◌, true, List, [], ◌∷◌, ◌++◌, length, get_or}
 use Rattle.std.proofs.Common.{refl, sym, subst, inl, inr, ⊎_elim, arith, length-append}
@@ -29,7 +29,7 @@ module _ (feet : List Footprint) where
     low = k.low;
   }
 
-  -- what is found at note t
+  -- the data found at note t
   module _ (t : ℕ) (within : t < length feet) (met : List ℕ) (known : List Known) (found : Found)
       (meets : (p : ℕ) → p < t → (has met p ≡ true) ↔ Clash (foot feet p) (foot feet t))
       (k : IsKnown feet t known) (f : IsFound met known 0 t found) where
@@ -123,7 +123,7 @@ module _ (feet : List Footprint) where
           (cases_eq b t);
     }
 
-  -- edges that join all nearest conflicts make ways for all conflicts
+  -- edges for all nearest conflicts form paths for all conflicts
   module _ (n : ℕ) (edges : List (ℕ × ℕ)) (whole : length feet ≤ n) (d : IsDrawn feet n edges) where
     Reaches-join : (p q t : ℕ) → Reaches edges p q → Reaches edges q t → Reaches edges p t
     Reaches-join p q t a (step e _ _ h) = onward e p q t a h
@@ -150,7 +150,7 @@ module _ (feet : List Footprint) where
       all = λ p t c. Reaches-conflict t p t (omega arith) c;
     }
 
-  -- levels by the rule on earlier conflicting notes are the longest chains
+  -- levels computed from the earlier conflicting notes are the lengths of the longest chains
   module _ (levels : List ℕ) (r : IsLevelled feet levels) where
     chain_to : (m t : ℕ) → t < length feet → get_or levels t 0 ≡ m → Chain feet m t
     chain_to zero t within is = alone t

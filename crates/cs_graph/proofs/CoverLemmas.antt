@@ -1,4 +1,4 @@
--- The notes parted into chains, one by one, and how many may run at once.
+-- The division of the notes into chains, one by one, and how many may run at once.
 use Rattle.std.proofs.lemmas.{Grind.common_steps, Option.get_or_from_slice_get, Option.same_Some}
 use Rattle.std.proofs.Common.{◌≡◌, ◌≢◌, ℕ, ◌+◌, ◌<◌, ◌≤◌, Bool, true, false, List, length, get_or, set, replicate}
 use Rattle.std.proofs.Common.{cond, eqb, refl, sym, ap, ◌∙◌, subst, inl, inr, ⊎_elim, arith, get_or-set_same}
@@ -30,11 +30,11 @@ covered_none edges n = grind (arith, common_steps, both_ways, none_goes_on)
 
 module _ (edges : List (ℕ × ℕ)) (m count : ℕ) (continued : List Bool) (chain : ℕ → ℕ)
     (c : IsCoveredTo edges m continued count chain) where
-  -- an earlier note keeps its chain
+  -- an earlier note stays in its chain
   stays : (x t : ℕ) → t < m → put chain m x t ≡ chain t
   stays x t l = put_else chain m x t (λ e. omega (arith, l, e))
 
-  -- note m begins a chain: those of the notes before it have later ones
+  -- note m begins a chain: all notes from which edges lead to it have later notes in their chains
   pub covered_begin : ((e p : ℕ) → Edge edges e p m → goes_on continued p ≡ true)
       → IsCoveredTo edges (m + 1) continued (count + 1) (put chain m count)
   covered_begin taken = record {
@@ -77,7 +77,7 @@ module _ (edges : List (ℕ × ℕ)) (m count : ℕ) (continued : List Bool) (ch
         (cases_eq t m);
   }
 
-  -- note m goes on with the chain of note p, which had no later note
+  -- note m continues the chain of note p, which had no later note
   module _ (i p : ℕ) (edge : Edge edges i p m) (before : p < m) (inside : p < length continued)
       (free : goes_on continued p ≡ false) where
     now_goes_on : (a : ℕ) → a ≡ p → goes_on (set continued p true) a ≡ true
@@ -86,7 +86,7 @@ module _ (edges : List (ℕ × ℕ)) (m count : ℕ) (continued : List Bool) (ch
     as_before : (a : ℕ) → a ≢ p → goes_on (set continued p true) a ≡ goes_on continued a
     as_before a n = get_or-set_other continued p a true false n
 
-    -- a note of the same chain is p itself, or p waits for it
+    -- a note in the same chain is p itself, or p waits for it
     reaches : (q : ℕ) → q < m → chain q ≡ chain p → Reaches edges q m
     reaches q l same = ⊎_elim
         (λ (e : q ≡ p). subst (λ x. Reaches edges x m) (sym e) (step i p m edge))
@@ -147,7 +147,7 @@ module _ (edges : List (ℕ × ℕ)) (m count : ℕ) (continued : List Bool) (ch
               (cases_eq t m);
         }
 
--- note m, whose edges are those of a range
+-- note m, whose edges are in a range
 module _ (edges : List (ℕ × ℕ)) (m count first end_ : ℕ) (into : AreInto edges m first end_) (continued : List Bool)
     (so_far : ArePartedTo edges m continued count) where
   pub parted_free : (p : ℕ) → LeadsForward edges (length continued) → IsFree edges continued first end_ p
@@ -169,7 +169,7 @@ module _ (edges : List (ℕ × ℕ)) (m count first end_ : ℕ) (into : AreInto 
         (λ e p at_. let w = (into e).1 (p, at_) in t e p m w.0 w.1 at_),
   )
 
--- all notes are parted
+-- all notes are divided into chains
 pub covers : (edges : List (ℕ × ℕ)) (n count : ℕ) (continued : List Bool) (chain : ℕ → ℕ) → LeadsForward edges n
     → IsCoveredTo edges n continued count chain → IsCover edges n count chain
 covers edges n count continued chain forward c = grind (arith, common_steps)
@@ -202,7 +202,7 @@ module _ (edges : List (ℕ × ℕ)) (n count : ℕ) (chain : ℕ → ℕ) (c : 
       (cases_eq i j))
       (cases_lt i j))
 
--- one more edge leads from a note whose chain has a later one
+-- the source of one more edge has a later note in its chain
 pub taken_more : (edges : List (ℕ × ℕ)) (continued : List Bool) (first e : ℕ) → e < length edges
     → goes_on continued (get_or edges e (0, 0)).0 ≡ true → AreTaken edges continued first e
     → AreTaken edges continued first (e + 1)

@@ -1,4 +1,4 @@
--- The edges to one note, drawn one by one.
+-- The edges to one note, appended one by one.
 use Rattle.std.proofs.Common.{◌≡◌, ℕ, zero, suc, ◌+◌, ◌-◌, ◌*◌, ◌/◌, ◌<◌, ◌≤◌, min, true, false, List, [], ◌∷◌, ◌++◌}
 use Rattle.std.proofs.Common.{length, length-append, refl, sym, subst, inl, inr, ⊎_elim, arith}
 use Rattle.std.proofs.lemmas.{Bool.both_ways, Bool.cases_eq, List.Quantifiers.all_pairs_push}
@@ -34,7 +34,7 @@ module _ (old : List (ℕ × ℕ)) (near : List ℕ) (t : ℕ) where
     long = d.long;
   }
 
-  -- a block without any of them
+  -- a block without members
   pub drawn_past : (edges : List (ℕ × ℕ)) (p n : ℕ) → ((i : ℕ) → p ≤ i → i < p + n → has near i ≡ false)
       → AreDrawnTo old near t p edges
       → AreDrawnTo old near t (p + n) edges

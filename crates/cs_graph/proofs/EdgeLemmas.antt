@@ -1,4 +1,4 @@
--- Edges that are added at the end of a list of edges, and edges in order.
+-- Edges that are appended to a list of edges, and edges in order.
 use Rattle.std.proofs.Common.{◌≡◌, ◌⊎◌, ℕ, zero, suc, ◌+◌, ◌<◌, ◌≤◌, List, [], ◌∷◌, ◌++◌, length, get_or, refl, sym, ap}
 use Rattle.std.proofs.Common.{◌∙◌, subst, inl, inr, ⊎_elim, arith, slice_get}
 use Rattle.std.proofs.lemmas.{Bool.cases_eq, List.get_or_push, List.get_or_append_left, Option.get_or_from_slice_get}
@@ -31,7 +31,7 @@ module _ (p t : ℕ) where
 pub all_before : (xs : List (ℕ × ℕ)) (t : ℕ) → ((e a b : ℕ) → Edge xs e a b → b < t) → All (λ e. e.1 < t) xs
 all_before xs t before k d within = before k (get_or xs k d).0 (get_or xs k d).1 (slice_get-get_or xs k d within)
 
--- the edges into the notes so far, and into one more
+-- the edges into the notes so far, and into one more note
 module _ (old edges : List (ℕ × ℕ)) (near : List ℕ) (t : ℕ) (drawn : AreDrawnTo old near t t edges)
     (before : (e a b : ℕ) → Edge old e a b → b < t) where
   into_old : (q first end_ : ℕ) → q < t → AreInto old q first end_ → AreInto edges q first end_
@@ -66,7 +66,7 @@ module _ (old edges : List (ℕ × ℕ)) (near : List ℕ) (t : ℕ) (drawn : Ar
       (into_old q (range_at into q).0 (range_at into q).1 below (each q below)))
       (cases_eq q t)
 
--- edges in order stand together by the later note
+-- among edges in order, the edges into the same note are consecutive
 module _ (edges : List (ℕ × ℕ)) (ordered : AllPairs ComesBefore edges) where
   up_to : (e f a b c d : ℕ) → e ≤ f → Edge edges e a b → Edge edges f c d → b ≤ d
   up_to e f a b c d low first last = ⊎_elim
@@ -91,7 +91,7 @@ module _ (edges : List (ℕ × ℕ)) (ordered : AllPairs ComesBefore edges) wher
       let same : x.1 ≡ t = omega (arith, up_to e f p t x.0 x.1 low first at_, up_to f g x.0 x.1 q t high at_ last) in
       (x.0, subst (λ b. Edge edges f x.0 b) same at_)
 
--- the range that is kept of a note's edges
+-- the stored range of the edges into a note
 pub range_read : (edges : List (ℕ × ℕ)) (levels : List ℕ) (into : List (ℕ × ℕ)) → AreEnds edges levels into
     → (t : ℕ) (x : ℕ × ℕ) → t < length levels → x ≡ get_or into t x → AreInto edges t x.0 x.1
 range_read edges levels into s t x within is =

@@ -1,4 +1,4 @@
--- A graph that has grown over all notes.
+-- The graph after all notes have been added.
 use Rattle.std.proofs.Common.{List, length, ◌≤◌, arith}
 use Rattle.cs_base.specs.Limits.{most_notes}
 use Rattle.cs_cells.specs.declared.footprint.Footprint.{Footprint}

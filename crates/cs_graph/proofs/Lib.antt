@@ -1,5 +1,6 @@
 pub mod ReadAt
 pub mod ChainLemmas
+pub mod CommonLemmas
 pub mod ConflictLemmas
 pub mod CoverLemmas
 pub mod DrawLemmas

@@ -10,7 +10,7 @@ module _ (met : List ℕ) (known : List Known) (t : ℕ) where
       → found.known.level ≡ 0 → IsFound met known t t found
   found_none found near reach level = grind (arith, common_steps, both_ways)
 
-  -- none of the notes that are passed over is met
+  -- a range of notes is skipped, since none of them conflicts with the note
   pub found_past : (from to : ℕ) (found : Found) → from ≤ to
       → ((p : ℕ) → from ≤ p → p < to → has met p ≡ false) → IsFound met known to t found
       → IsFound met known from t found
@@ -29,7 +29,7 @@ module _ (met : List ℕ) (known : List Known) (t : ℕ) where
 
   module _ (closed : IsClosed known t) (q : ℕ) (old new : Found) (within : q < t) (is_met : Has met q)
       (f : IsFound met known (q + 1) t old) where
-    -- a note that is reached from those taken in before is reached from a later one
+    -- a note that leads to a note added before leads to a later conflicting note
     reached_by : Has old.known.reach q → (r : ℕ) × (q + 1 ≤ r) × (r < t) × Has met r × LeadsIn known q r
     reached_by h = let w = f.reach q
         h in (w.0, w.1, w.2, w.3, ⊎_elim (λ same. absurd (omega (arith, same, w.1))) (λ leads. leads) w.4)

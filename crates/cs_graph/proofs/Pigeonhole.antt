@@ -1,8 +1,8 @@
--- Different places in n can be given different numbers below m only where n is at most m.
+-- n different places can have different numbers below m only if n is at most m.
 use Rattle.std.proofs.lemmas.{Grind.common_steps, Bool.eq-eqb, Bool.ne_eqb, Bool.cases_eq}
 use Rattle.std.proofs.Common.{◌≡◌, ◌⊎◌, ℕ, zero, suc, ◌<◌, ◌≤◌, cond, eqb, arith}
 
--- f with its value at `last` in place of m
+-- f with its value at `last` instead of m
 abbrev avoiding : (ℕ → ℕ) → ℕ → ℕ → ℕ → ℕ
 avoiding f m last i = cond (eqb (f i) m) (f last) (f i)
 
@@ -12,9 +12,11 @@ Avoids x m y r = ((x ≡ m) × (r ≡ y)) ⊎ ((x ≡ m → ⊥) × (r ≡ x))
 avoids : (x m y : ℕ) → Avoids x m y (cond (eqb x m) y x)
 avoids x m y = grind (arith, common_steps, cases_eq, eq-eqb, ne_eqb)
 
+-- f maps the numbers below n to numbers below m
 abbrev pub Into : (ℕ → ℕ) → ℕ → ℕ → Type 0
 Into f n m = (i : ℕ) → i < n → f i < m
 
+-- f maps different numbers below n to different numbers
 abbrev pub OneToOne : (ℕ → ℕ) → ℕ → Type 0
 OneToOne f n = (i j : ℕ) → i < n → j < n → f i ≡ f j → i ≡ j
 

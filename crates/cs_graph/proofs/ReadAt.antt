@@ -1,4 +1,4 @@
--- An element that was read is the element by any default.
+-- An element that was read from a list is the element there for any default.
 use Rattle.std.proofs.Common.{◌≡◌, ℕ, ◌<◌, List, length, get_or, refl}
 use Rattle.std.proofs.lemmas.List.Elements.{at_read}
 

@@ -8,12 +8,12 @@ use Rattle.std.proofs.lemmas.Bool.{cases_eq, cases_lt}
 use Rattle.std.proofs.lemmas.Nat.Bits.{bit_at-zero, bit_at-lt, bit_at_or, shr_and_one, bit_at_set_same}
 use Rattle.cs_graph.specs.inner.Sets.{has}
 
--- the test of a bit, as code makes it
+-- the test of a bit as the code computes it
 pub has_bit : (ws : List ℕ) (n : ℕ) → eqb (bit_and (get_or ws (n / 64) 0 / 2 ^ (n % 64)) 1) 1 ≡ has ws n
 unfolding has
 has_bit ws n = ap (λ b. eqb b 1) (shr_and_one (get_or ws (n / 64) 0) (n % 64))
 
--- a word without a bit has none of its notes
+-- a word that is 0 has none of its notes
 pub has_clear : (ws : List ℕ) (block i : ℕ) → get_or ws block 0 ≡ 0 → i / 64 ≡ block → has ws i ≡ false
 unfolding has
 has_clear ws block i clear at_ = rw (at_, clear, bit_at-zero (i % 64)) refl
@@ -65,7 +65,7 @@ bit-join : (a b j : ℕ) → eqb (bit_at (bit_or a b) j) 1 ≡ (eqb (bit_at a j)
 bit-join a b j = let low : bit_at a j < 2 = bit_at-lt a j in let low' : bit_at b j < 2 = bit_at-lt b j in
     let is : bit_at (bit_or a b) j ≡ max (bit_at a j) (bit_at b j) = bit_at_or a b j in grind (arith, nat_tests)
 
--- where each word is the union of two, so is the set
+-- if each word is the union of two words, the set is the union of two sets
 pub has-join : (ws us vs : List ℕ) (i : ℕ) → length ws ≡ 8 → length us ≡ 8 → length vs ≡ 8
     → ((k : ℕ) → k < 8 → get_or ws k 0 ≡ bit_or (get_or us k 0) (get_or vs k 0)) → has ws i ≡ (has us i || has vs i)
 unfolding has

@@ -75,7 +75,7 @@ edge_near (suc (suc zero)) p t at = subst (λ z. Near small_cycle z.0 z.1) (same
 edge_near (suc (suc (suc zero))) p t at = subst (λ z. Near small_cycle z.0 z.1) (same_Some (2, 3) (p, t) at) near_23
 edge_near (suc (suc (suc (suc e)))) p t at = absurd (none-some (p, t) at)
 
--- what holds of each conflict
+-- a property of each conflict, by cases
 by_conflict : (P : ℕ → ℕ → Type 0) → P 0 1 → P 0 2 → P 0 3 → P 1 3 → P 2 3 → (p t : ℕ) → Conflict small_cycle p t
     → P p t
 by_conflict P a b c d e p zero h = absurd (omega (arith, h.earlier))

@@ -50,7 +50,7 @@ module _ (F G : Footprint) (w u : ℕ → Bool) (writes : (y : ℕ) → w y ≡ 
 pub or_with : (a b c : Bool) → a ≡ b → (a || c) ≡ (b || c)
 or_with a b c e = ap (λ x. x || c) e
 
--- of an earlier note, what is so of the notes before t
+-- a property of the notes before t holds for an earlier note
 pub of_earlier : (b x : Bool) (p t : ℕ) → p < t → b ≡ (nat_lt p t && x) → b ≡ x
 of_earlier b x p t earlier e = grind (arith, nat_tests)
 
@@ -58,18 +58,18 @@ or_assoc : (a b c : Bool) → ((a || b) || c) ≡ (a || (b || c))
 or_assoc true b c = refl
 or_assoc false b c = refl
 
--- what a note adds isn't among the earlier notes
+-- adding a note changes nothing for the earlier notes
 pub others_same : (a b t : Bool) (p note : ℕ) → p ≢ note → t ≡ (a || (b && p == note)) → t ≡ a
 others_same a b t p note apart e = grind (arith, nat_tests)
 
--- one more place is met
+-- one more place is checked for conflicts
 pub met_more : (f : ℕ → Bool) (xs : List ℕ) (i : ℕ) (m0 m m' u : Bool) → i < length xs → m' ≡ (m || u)
     → u ≡ f (get_or xs i 0)
     → m ≡ (m0 || list_any f (take i xs)) → m' ≡ (m0 || list_any f (take (i + 1) xs))
 met_more f xs i m0 m m' u within e k before =
     rw (e, k, before, list_any_more f xs i 0 within) (or_assoc m0 (list_any f (take i xs)) (f (get_or xs i 0)))
 
--- what is so of the first t notes, and of note t where it touches the place
+-- a property of the first t notes, and of note t if it touches the place, is one of the first t + 1 notes
 more : (p t : ℕ) (old new x y : Bool) → old ≡ (nat_lt p t && x) → (p ≡ t → y ≡ x) → new ≡ (old || (y && p == t))
     → new ≡ (nat_lt p (t + 1) && x)
 more p t old new x y is same grown = ⊎_elim

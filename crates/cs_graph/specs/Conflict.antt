@@ -2,18 +2,19 @@ use Rattle.std.specs.Prelude.{ℕ, suc, ◌<◌, ◌≤◌, ◌⊎◌, List, [],
 use Rattle.std.specs.List.{Contains}
 use Rattle.cs_cells.specs.declared.footprint.Footprint.{Footprint}
 
--- whatever is written counts as used
+-- the footprint uses resource r: a resource that is written also counts as used
 abbrev pub UsesResource : Footprint → ℕ → Type 0
 UsesResource f r = Contains f.uses r ⊎ Contains f.writes r
 
+-- the footprint writes resource r
 abbrev pub WritesResource : Footprint → ℕ → Type 0
 WritesResource f r = Contains f.writes r
 
--- one of the two writes a resource that the other uses
+-- one of the two footprints writes a resource that the other uses
 abbrev pub Clash : Footprint → Footprint → Type 0
 Clash f g = (r : ℕ) × ((WritesResource f r × UsesResource g r) ⊎ (UsesResource f r × WritesResource g r))
 
--- the footprint of note t; there is nothing that a note past the last one touches
+-- the footprint of note t; a note after the last one touches nothing
 abbrev pub foot : List Footprint → ℕ → Footprint
 foot feet t = slice_index_or feet t (record { uses = []; writes = [] })
 
@@ -38,7 +39,7 @@ pub data Chain (feet : List Footprint) : ℕ → ℕ → Type 0 where
   alone : (t : ℕ) → Chain feet 0 t
   further : (n p t : ℕ) → Chain feet n p → Conflict feet p t → Chain feet (suc n) t
 
--- the level of a note: how many conflicts the longest chain has that ends at it
+-- the level of a note: the length of the longest chain of conflicts that ends at it
 pub record IsLevel (feet : List Footprint) (t level : ℕ) : Type 0 where
   pub chain : Chain feet level t
   pub longest : (n : ℕ) → Chain feet n t → n ≤ level

@@ -3,7 +3,8 @@ use Rattle.std.specs.List.{AllPairs}
 use Rattle.cs_cells.specs.declared.footprint.Footprint.{Footprint}
 use Rattle.cs_graph.specs.Conflict.{Conflict, Near, IsLevel}
 
--- What contracts see of a graph: its edges, each from an earlier note to a later one, and the level of each note.
+-- A graph as contracts see it: its edges, each from an earlier note to a later one, and the level of each
+-- note.
 pub record Dependencies : Type 0 where
   pub edges : List (ℕ × ℕ)
   pub levels : List ℕ
@@ -12,15 +13,15 @@ pub record Dependencies : Type 0 where
 abbrev pub Edge : List (ℕ × ℕ) → ℕ → ℕ → ℕ → Type 0
 Edge edges e p t = slice_get edges e ≡ Some (p, t)
 
--- by the later note, and for one later note by the earlier one
+-- the order of edges: by the later note, and for the same later note by the earlier one
 abbrev pub ComesBefore : ℕ × ℕ → ℕ × ℕ → Type 0
 ComesBefore e f = (e.1 < f.1) ⊎ ((e.1 ≡ f.1) × (e.0 < f.0))
 
--- each edge leads from an earlier note to a later one of n
+-- each edge leads from an earlier note to a later one, and both are among the first n notes
 abbrev pub LeadsForward : List (ℕ × ℕ) → ℕ → Type 0
 LeadsForward edges n = (e p t : ℕ) → Edge edges e p t → (p < t) × (t < n)
 
--- between two edges into note t there are only edges into it
+-- the edges into note t are consecutive
 abbrev pub StandTogether : List (ℕ × ℕ) → ℕ → Type 0
 StandTogether edges t = (e f g p q : ℕ) → Edge edges e p t → Edge edges g q t → e ≤ f → f ≤ g
     → (r : ℕ) × Edge edges f r t
@@ -40,24 +41,26 @@ pub record IsNextOut (edges : List (ℕ × ℕ)) (p i e : ℕ) : Type 0 where
   pub edge : (t : ℕ) × Edge edges e p t
   pub first : (f t : ℕ) → Edge edges f p t → i ≤ f → e ≤ f
 
--- a way along one or more edges leads from note p to note t
+-- a path of one or more edges leads from note p to note t
 pub data Reaches (edges : List (ℕ × ℕ)) : ℕ → ℕ → Type 0 where
   step : (e p t : ℕ) → Edge edges e p t → Reaches edges p t
   onward : (e p q t : ℕ) → Reaches edges p q → Edge edges e q t → Reaches edges p t
 
--- the graph of a list of footprints: its edges are exactly the nearest conflicts, in order, each once
+-- the graph of a list of footprints: its edges are exactly the nearest conflicts, in order and without
+-- duplicates
 pub record IsGraphOf (feet : List Footprint) (graph : Dependencies) : Type 0 where
   pub notes : length graph.levels ≡ length feet
   pub near : (p t : ℕ) → ((e : ℕ) × Edge graph.edges e p t) ↔ Near feet p t
   pub ordered : AllPairs ComesBefore graph.edges
   pub level : (t : ℕ) → t < length feet → IsLevel feet t (slice_index graph.levels t)
 
--- each edge is a conflict, and each earlier conflicting note is reached along edges
+-- each edge is a conflict, and from each earlier conflicting note a path of edges leads to the later one
 pub record IsFit (feet : List Footprint) (edges : List (ℕ × ℕ)) : Type 0 where
   pub each : (e p t : ℕ) → Edge edges e p t → Conflict feet p t
   pub all : (p t : ℕ) → Conflict feet p t → Reaches edges p t
 
--- 0 without an earlier conflicting note, else one more than the greatest level of these
+-- the level is 0 without an earlier conflicting note, and otherwise one more than the greatest level among
+-- those notes
 pub record IsLevelled (feet : List Footprint) (levels : List ℕ) : Type 0 where
   pub none : (t : ℕ) → t < length feet → ((p : ℕ) → ¬ (Conflict feet p t)) → slice_index levels t ≡ 0
   pub above : (p t : ℕ) → Conflict feet p t → slice_index levels p < slice_index levels t

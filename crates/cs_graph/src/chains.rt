@@ -1,12 +1,12 @@
-// The edges of a cycle, chained by the note that they leave.
+// The edges of a cycle, linked into lists by the note that they leave.
 ghost use Rattle.std.specs.Prelude.{◌≡◌, ◌+◌, ◌<◌, ◌^◌, length, IfOk};
 ghost use Rattle.cs_graph.specs.{Graph.LeadsForward, inner.Index.IsChained};
 
 use cs_base::OutOfMemory;
 use std::alloc::Global;
 
-/// For each note the first edge from it, and for each edge the next one from the same note. The
-/// number of edges stands for none.
+/// Returns, for each note, the first edge from it, and for each edge, the next edge from the same note. The
+/// number of edges means "none".
 pub fn chained(
     alloc: Global,
     edges: &[(u32, u32)],
@@ -28,7 +28,7 @@ pub fn chained(
     Ok((first_out, next_out))
 }
 
-/// One more edge comes before those that its note has so far.
+// Inserts an edge before the later edges from its note.
 fn link(edges: &[(u32, u32)], edge: u32, first_out: &mut Vec<u32>, next_out: &mut Vec<u32>)
     requires within { edge < length edges.now }
     requires few { length edges.now < 2 ^ 31 }

@@ -1,4 +1,4 @@
-// How many chains along edges cover the notes of a cycle.
+// The number of chains along edges that cover the notes of a cycle.
 ghost use Rattle.cs_base.specs.Limits.{most_notes};
 ghost use Rattle.std.specs.Prelude.{◌≡◌, ◌<◌, ◌≤◌, ℕ, length, IfOk, IfSome, IfNone};
 ghost use Rattle.cs_graph.specs.{Cover.HasCover, Graph.Edge, Graph.LeadsForward, inner.Covering.IsFree};
@@ -7,9 +7,9 @@ ghost use Rattle.cs_graph.specs.{inner.Covering.AreTaken, inner.Index.AreInto, i
 use cs_base::OutOfMemory;
 use std::alloc::Global;
 
-/// Parts the notes into chains, and returns how many there are: in serial order each note goes on with the chain of a
-/// note from which an edge leads to it, where no other note goes on with that, or begins a chain. `into` has for each
-/// note the first edge into it and the one behind the last.
+/// Divides the notes into chains, and returns the number of chains. In serial order, each note continues the
+/// chain of a note from which an edge leads to it, if no other note continues that chain; otherwise it begins
+/// a chain. `into` has, for each note, the range of the edges into it: the first, and the one after the last.
 pub fn count_chains(
     alloc: Global,
     edges: &[(u32, u32)],
@@ -32,7 +32,7 @@ pub fn count_chains(
     Ok(count)
 }
 
-/// The first note from which an edge of the range leads, and whose chain has no later note yet.
+// The first note that has an edge in the range, and whose chain has no later note yet.
 fn free_before(edges: &[(u32, u32)], range: (u32, u32), continued: &[bool]) -> Option<u32>
     requires within { (e : ℕ) → range.0 ≤ e → e < range.1 → e < length edges.now }
     requires forward { LeadsForward edges.now (length continued.now) }

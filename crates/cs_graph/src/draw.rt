@@ -1,4 +1,4 @@
-// The edges into one note, drawn behind those that there are.
+// The edges into one note, appended to the existing edges.
 ghost use Rattle.cs_base.specs.Limits.{most_notes};
 ghost use Rattle.std.specs.Prelude.{◌≡◌, ◌<◌, ◌≤◌, ℕ, List, length, OnOk};
 ghost use Rattle.std.specs.List.{All, AllPairs};
@@ -7,7 +7,7 @@ ghost use Rattle.cs_graph.specs.{Graph.ComesBefore, inner.Growing.AreDrawnTo};
 use crate::note_set::{BLOCK, NoteSet};
 use cs_base::OutOfMemory;
 
-/// Draws the edges from a set of earlier notes to a note.
+/// Appends the edges from a set of earlier notes to a note.
 pub fn add_edges(edges: &mut Vec<(u32, u32)>, near: &NoteSet, note: u32) -> Result<(), OutOfMemory>
     requires small { note < most_notes }
     requires ordered { AllPairs ComesBefore edges.old.items }
@@ -28,7 +28,7 @@ pub fn add_edges(edges: &mut Vec<(u32, u32)>, near: &NoteSet, note: u32) -> Resu
     Ok(())
 }
 
-/// The edges from those of the notes from one on and below another.
+// Appends the edges from the members of the set between `from` (inclusive) and `to` (exclusive).
 fn add_block(
     edges: &mut Vec<(u32, u32)>,
     near: &NoteSet,

@@ -1,4 +1,4 @@
-// The graph of a control cycle's jobs, by their footprints.
+// The graph of a control cycle's jobs, computed from their footprints.
 ghost use Rattle.cs_base.specs.Limits.{most_notes};
 ghost use Rattle.std.specs.Prelude.{◌≡◌, ◌*◌, ◌+◌, ◌<◌, ◌≤◌, ◌↔◌, ℕ, List, length, slice_index, IfOk, IfSome, IfNone};
 ghost use Rattle.std.specs.List.{AllPairs};
@@ -15,20 +15,21 @@ use std::alloc::Global;
 use std::marker::Model;
 use std::ops::Range;
 
-/// Which notes of a control cycle wait for which: an edge leads from each note to the later ones that conflict with it
-/// and that no longer chain of conflicts joins to it. Edges are numbered by the later note, then by the earlier. It
-/// stays the same as long as the same notes are active, and can be shared meanwhile.
+/// For each note of a control cycle, the earlier notes that it waits for: an edge leads from a note to each
+/// later one that conflicts with it, unless a path of two or more conflicts already connects them. Edges are
+/// numbered by the later note, then by the earlier one. The graph stays valid as long as the same notes are
+/// active, and can be shared until then.
 #[derive(Drop)]
 pub struct Graph {
     edges: Vec<(u32, u32)>,
     levels: Vec<u32>,
-    /// For each note the first edge into it and the one behind the last.
+    // For each note, the range of the edges into it: the first, and the one after the last.
     into: Vec<(u32, u32)>,
-    /// For each note the first edge from it. The number of edges stands for none.
+    // For each note, the first edge from it. The number of edges means "none".
     first_out: Vec<u32>,
-    /// For each edge the next one from the same note.
+    // For each edge, the next edge from the same note.
     next_out: Vec<u32>,
-    /// How many chains along edges cover the notes.
+    // The number of chains along edges that cover the notes.
     chains: u32,
 }
 
@@ -44,20 +45,22 @@ impl Model for Graph {
 }
 
 impl Graph {
-    /// The graph of jobs with these footprints, in serial order, as many as a cycle may have notes.
+    /// Returns the graph of jobs with these footprints, in serial order; at most as many as a cycle may have
+    /// notes.
     pub fn of_feet(alloc: Global, feet: &[Footprint]) -> Result<Graph, OutOfMemory>
         requires { length feet.now ≤ most_notes }
         ensures graph { IfOk result (IsGraphOf feet.now) }
-        // Each edge is a conflict, and each conflict is reached along edges.
+        // Each edge is a conflict, and each pair of conflicting notes is connected by a path of edges.
         ensures fit { IfOk result (λ graph. IsFit feet.now graph.edges) }
-        // The levels by the rule on the earlier conflicting notes.
+        // The levels are 0 for a note without earlier conflicts, and otherwise one more than the greatest
+        // level among the earlier conflicting notes.
         ensures levelled { IfOk result (λ graph. IsLevelled feet.now graph.levels) }
     {
         let graph = Graph::link(alloc, grow(alloc, feet)?)?;
         Ok(graph)
     }
 
-    /// The graph of what is known once all notes are taken in.
+    // The graph, from the data collected after all notes have been added.
     fn link(alloc: Global, growing: Growing) -> Result<Graph, OutOfMemory>
         requires ends { AreEnds growing.edges.items growing.levels.items growing.into.items }
         ensures edges { IfOk result (λ graph. graph.edges ≡ growing.edges.items) }
@@ -81,7 +84,7 @@ impl Graph {
         })
     }
 
-    /// The number of notes.
+    /// Returns the number of notes.
     pub fn len(&self) -> u32
         ensures notes { result ≡ length self.now.levels }
         ensures few { result ≤ most_notes }
@@ -89,7 +92,8 @@ impl Graph {
         self.levels.len() as u32
     }
 
-    /// 0 without an earlier conflicting note, else one more than the greatest level of these.
+    /// Returns the level of a note: 0 without an earlier conflicting note, and otherwise one more than the
+    /// greatest level among those notes.
     pub fn level(&self, note: u32) -> u32
         requires { note < length self.now.levels }
         ensures { result ≡ slice_index self.now.levels note }
@@ -97,8 +101,8 @@ impl Graph {
         self.levels[note as usize]
     }
 
-    /// How many workers the cycle can use: as many chains along edges cover its notes, and no more of
-    /// them can ever run at once.
+    /// Returns how many workers the cycle can use: the number of chains along edges that cover its notes. No
+    /// more notes than that can ever run at once.
     pub fn useful_workers(&self) -> u32
         ensures cover { HasCover self.now.edges (length self.now.levels) result }
         ensures most { (notes : List ℕ) → AreApart self.now.edges (length self.now.levels) notes
@@ -107,19 +111,20 @@ impl Graph {
         self.chains
     }
 
-    /// All edges, each from an earlier note to a later one, in the order of the later note and then of the earlier one.
+    /// Returns all edges, each from an earlier note to a later one, ordered by the later note and then by the
+    /// earlier one.
     pub fn edges(&self) -> &[(u32, u32)]
         ensures edges { result.now ≡ self.now.edges }
         ensures few { length result.now ≤ most_notes * most_notes }
         ensures ordered { AllPairs ComesBefore self.now.edges }
         ensures forward { LeadsForward self.now.edges (length self.now.levels) }
-        // Between two edges into a note there are only edges into it.
+        // The edges into one note are consecutive.
         ensures together { (t : ℕ) → StandTogether self.now.edges t }
     {
         &self.edges
     }
 
-    /// The number of edges.
+    /// Returns the number of edges.
     pub fn edge_count(&self) -> u32
         ensures count { result ≡ length self.now.edges }
         ensures few { result ≤ most_notes * most_notes }
@@ -127,7 +132,7 @@ impl Graph {
         self.edges.len() as u32
     }
 
-    /// The notes that an edge joins, the earlier one first.
+    /// Returns the notes that an edge connects, the earlier one first.
     pub fn ends(&self, edge: u32) -> (u32, u32)
         requires { edge < length self.now.edges }
         ensures edge { Edge self.now.edges edge result.0 result.1 }
@@ -136,7 +141,7 @@ impl Graph {
         self.edges[edge as usize]
     }
 
-    /// The numbers of the edges that lead to a note.
+    /// Returns the numbers of the edges that lead to a note.
     pub fn in_edges(&self, note: u32) -> Range<u32>
         requires { note < length self.now.levels }
         ensures { (e : ℕ) → ((result.start ≤ e) × (e < result.end)) ↔ ((p : ℕ) × Edge self.now.edges e p note) }
@@ -145,7 +150,8 @@ impl Graph {
         first..end
     }
 
-    /// The edge after this one, if it leads to the same note; if not, none after it does.
+    /// Returns the next edge if it leads to the same note; if it doesn't, no later edge does, and the result
+    /// is `None`.
     pub fn next_in(&self, edge: u32, note: u32) -> Option<u32>
         requires { (p : ℕ) × Edge self.now.edges edge p note }
         ensures some { IfSome result (λ next. (next ≡ edge + 1) × ((p : ℕ) × Edge self.now.edges next p note)) }
@@ -156,7 +162,7 @@ impl Graph {
         if next < end { Some(next) } else { None }
     }
 
-    /// The first edge that leads from a note.
+    /// Returns the first edge that leads from a note, or `None` if there is none.
     pub fn first_out(&self, note: u32) -> Option<u32>
         requires { note < length self.now.levels }
         ensures some { IfSome result (IsNextOut self.now.edges note 0) }
@@ -165,7 +171,7 @@ impl Graph {
         self.named(self.first_out[note as usize])
     }
 
-    /// The next edge that leads from the note from which this one does.
+    /// Returns the next edge that leads from the same note as `edge`, or `None` if there is none.
     pub fn next_out(&self, edge: u32, note: u32) -> Option<u32>
         requires { (t : ℕ) × Edge self.now.edges edge note t }
         ensures some { IfSome result (IsNextOut self.now.edges note (edge + 1)) }

@@ -1,4 +1,4 @@
-// A graph as far as it is built, note by note.
+// A graph under construction, note by note.
 ghost use Rattle.cs_base.specs.Limits.{most_notes};
 ghost use Rattle.std.specs.Prelude.{◌≡◌, ◌+◌, ◌<◌, ◌≤◌, length, IfOk, OnOk};
 ghost use Rattle.cs_graph.specs.inner.Growing.{IsGrown};
@@ -11,8 +11,8 @@ use cs_cells::Footprint;
 use std::alloc::Global;
 use std::collections::HashMap;
 
-/// What is known of the notes so far: who shares which place, who leads to whom, the edges, the
-/// level of each note, and for each note the first edge into it and the one behind the last.
+/// The data about the notes so far: the notes that touch each place, the notes that lead to each note, the
+/// edges, the level of each note, and for each note the range of the edges into it.
 #[derive(Drop)]
 pub struct Growing {
     pub by_place: SharersByPlace,
@@ -40,7 +40,7 @@ impl Growing {
     }
 }
 
-/// What is known once all notes are taken in.
+/// Returns the data after all notes have been added.
 pub fn grow(alloc: Global, feet: &[Footprint]) -> Result<Growing, OutOfMemory>
     requires { length feet.now ≤ most_notes }
     ensures { IfOk result (IsGrown feet.now (length feet.now)) }

@@ -1,4 +1,5 @@
-// At one note: which of the earlier notes that it meets are nearest, which lead to it, and its level.
+// The work at one note: which of its earlier conflicting notes are nearest, which notes lead to it, and its
+// level.
 ghost use Rattle.cs_base.specs.Limits.{most_notes};
 ghost use Rattle.std.specs.Prelude.{◌≡◌, ◌==◌, ◌||◌, ◌&&◌, not, ℕ, ◌<◌, ◌≤◌, ◌+◌, true, false, max, length};
 ghost use Rattle.cs_graph.specs.{inner.Nearest.IsClosed, inner.Nearest.IsFound, inner.Sets.has};
@@ -6,15 +7,15 @@ ghost use Rattle.cs_graph.specs.{inner.Nearest.IsClosed, inner.Nearest.IsFound, 
 use crate::note_set::{BLOCK, NoteSet};
 use std::cmp::max;
 
-/// What is known of a note once it is sorted in: the earlier notes from which a chain of conflicts
-/// leads to it, and its level.
+/// The data about a note after it has been added: the earlier notes from which a chain of conflicts leads to
+/// it, and its level.
 #[derive(Drop)]
 pub struct Known {
     pub reach: NoteSet,
     pub level: u32,
 }
 
-/// What is found at a note, from its latest earlier note down.
+/// The data found at a note so far, scanning the earlier notes from the latest down.
 #[derive(Drop)]
 pub struct Found {
     pub near: NoteSet,
@@ -36,7 +37,8 @@ impl Found {
         }
     }
 
-    // Takes in an earlier note that is met: it is nearest unless a chain leads from it to one that was taken in before.
+    // Adds an earlier conflicting note: it is nearest unless a chain leads from it to a note that was added
+    // before.
     fn take_in(&mut self, note: u32, known: &Known)
         requires small { note < most_notes }
         requires low { known.now.level < most_notes }
@@ -58,7 +60,8 @@ impl Found {
     }
 }
 
-/// Sorts the notes that a note meets, by what is known of the earlier notes.
+/// Finds the nearest among the notes in `met`, which conflict with `note`, using the data about the earlier
+/// notes.
 pub fn nearest(met: &NoteSet, note: u32, known: &[Known]) -> Found
     requires small { note < most_notes }
     requires known { length known.now ≡ note }
@@ -80,8 +83,8 @@ pub fn nearest(met: &NoteSet, note: u32, known: &[Known]) -> Found
     found
 }
 
-/// Sorts in those of the earlier notes from one on and below another, from the latest down, once those from there on
-/// are.
+// Adds the members of `met` between `from` (inclusive) and `to` (exclusive), from the latest down; the
+// members from `to` on have been added before.
 fn sort_block(found: &mut Found, met: &NoteSet, known: &[Known], from: u32, to: u32)
     requires small { length known.now < most_notes }
     requires range { (from ≤ to) × (to ≤ length known.now) }

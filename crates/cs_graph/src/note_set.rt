@@ -1,4 +1,4 @@
-// A set of the notes of a cycle, one bit each.
+// A set of the notes of a cycle, with one bit for each note.
 ghost use Rattle.cs_base.specs.Limits.{most_notes};
 ghost use Rattle.std.specs.Prelude.{◌≡◌, ◌==◌, ◌||◌, ◌/◌, ℕ, ◌<◌, true, false};
 ghost use Rattle.cs_graph.specs.inner.Sets.{has};
@@ -6,13 +6,14 @@ ghost use Rattle.cs_graph.specs.inner.Sets.{has};
 use cs_base::MOST_NOTES;
 use std::marker::Model;
 
-/// How many words have a bit for each note.
+// The number of 64-bit words that have a bit for each note.
 const WORDS: usize = MOST_NOTES / 64;
 
-/// How many notes have their bits in one word. A block of so many is passed over where it has no member.
+/// Number of notes whose bits are in one word. A block of this size is skipped if it has no member.
 pub const BLOCK: u32 = 64;
 
-/// A set of the notes that a cycle may have, as bits of words. Contracts see the words, and ask for a member by `has`.
+/// A set of the notes that a cycle may have, as bits in words. Contracts see the words, and test for a member
+/// with `has`.
 #[derive(Clone, Copy)]
 pub struct NoteSet {
     words: [u64; WORDS],
@@ -31,13 +32,14 @@ impl Model for NoteSet {
 }
 
 impl NoteSet {
-    /// No notes.
+    /// Returns the empty set.
     pub fn new() -> NoteSet
         ensures { (i : ℕ) → has result i ≡ false }
     {
         NoteSet { words: [0; WORDS] }
     }
 
+    /// Whether `note` is a member.
     pub fn contains(&self, note: u32) -> bool
         requires { note < most_notes }
         ensures { result ≡ has self.now note }
@@ -45,7 +47,7 @@ impl NoteSet {
         self.words[(note / 64) as usize] >> (note % 64) & 1 == 1
     }
 
-    /// Whether none of the 64 notes from 64 times `block` on is a member.
+    /// Returns true only if none of the 64 notes from 64 times `block` on is a member.
     pub fn is_clear(&self, block: u32) -> bool
         requires { block < 8 }
         ensures { result ≡ true → (i : ℕ) → i / 64 ≡ block → has self.now i ≡ false }
@@ -53,6 +55,7 @@ impl NoteSet {
         self.words[block as usize] == 0
     }
 
+    /// Adds `note`.
     pub fn insert(&mut self, note: u32)
         requires { note < most_notes }
         ensures { (i : ℕ) → has self.new i ≡ (has self.old i || i == note) }

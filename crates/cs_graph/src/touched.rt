@@ -1,4 +1,4 @@
-// The notes so far that use and that write each place.
+// For each place, the notes so far that use it and that write it.
 ghost use Rattle.cs_base.specs.Limits.{most_notes};
 ghost use Rattle.std.specs.Prelude.{◌≡◌, ◌==◌, ◌≢◌, ◌&&◌, ◌||◌, ◌↔◌, ◌+◌, ℕ, ◌<◌, true, false, length, IfOk, OnOk};
 ghost use Rattle.std.specs.List.{list_any};
@@ -10,14 +10,14 @@ use cs_base::OutOfMemory;
 use cs_cells::Footprint;
 use std::collections::HashMap;
 
-/// The notes so far that use a place (whatever is written is used), and those that write it.
+/// The notes so far that use a place (a place that is written counts as used), and the notes that write it.
 #[derive(Drop)]
 pub struct Sharers {
     users: NoteSet,
     writers: NoteSet,
 }
 
-/// Who shares each place that a note so far has touched.
+/// The notes that share each place that a note so far has touched.
 pub type SharersByPlace = HashMap<u32, Sharers>;
 
 impl Sharers {
@@ -32,7 +32,8 @@ impl Sharers {
     }
 }
 
-// The note uses the place, and so meets the place's writers so far; or it writes the place, and meets its users.
+// Records that the note uses the place, and adds the place's writers so far to `met`. If the note writes the
+// place, it records that, too, and adds all users so far to `met` instead.
 fn touch_place(
     by_place: &mut SharersByPlace,
     place: u32,
@@ -80,7 +81,7 @@ fn touch_places(
     Ok(())
 }
 
-/// Takes in the next note, and answers the earlier notes that it conflicts with.
+/// Adds the next note, and returns the earlier notes that it conflicts with.
 pub fn meet(
     by_place: &mut SharersByPlace,
     feet: &[Footprint],

@@ -9,7 +9,7 @@ pub slice_written : {A : Type 0} (n : ℕ) (new old : List A) → length new ≡
 slice_written n new old long =
     ap (λ k. take k (new ++ drop (length new) old)) (sym long) ∙ take-append_seam new (drop (length new) old)
 
--- the block of the mix, where `lent` was lent of `old`
+-- the block of the mix, after a slice `lent` of `old` was written
 pub mix_written : (c : Composition) (n size : ℕ) (new old lent : List ℤ) → new ≡ mix_in c n
     → length old ≡ c.head.ksmps * c.head.nchnls → lent ≡ old → length lent ≡ size
     → take size (new ++ drop (length new) old) ≡ mix_in c n

@@ -20,7 +20,7 @@ use Rattle.cs_perform.specs.inner.Stands.{RunsNotes}
 use Rattle.cs_piece.specs.Setups.{SetupData, composition_of}
 use Rattle.cs_perform.proofs.Frames.{count_by_both, frames_before_more, length-frames_before}
 
--- the moment after a cycle is the one before the next
+-- the moment after a cycle is the moment before the next one
 pub moment_after : (c : Composition) (n : ℕ)
     → turned_off (performed c (begins c n (moment_at c n))) ≡ moment_at c (n + 1)
 moment_after c n = ap (moment_at c) (let e : suc n ≡ n + 1 = omega arith in e)
@@ -55,7 +55,7 @@ counts_cycle N c n life voices cells before now st counted = record {
   counted = counted;
 }
 
--- the notes run, by what is so of the stand that they run over, when they have performed, and when they have left
+-- the notes run: from the state before them, after they have performed, and after some have left
 pub runs_notes : {S G C : Type 0} (is_at : SetupData → S → Moment → Type 0) (N : C → Receipts → Type 0) (old now : S)
     (stand ran left : Stand G) (before after : C) (block : List ℤ)
     → ((s : SetupData) (m : Moment) → is_at s old m → IsAt s stand m)
@@ -75,7 +75,7 @@ runs_notes is_at N old now stand ran left before after block begun performs coun
 
 -- NUMBERS
 
--- there is room to count a cycle, and as much less afterwards
+-- the counter has room for a cycle, and for that much less afterwards
 pub room_left : (room n : ℕ) → n < 2 ^ 32 → 2 ^ 42 ≤ room + n * (most_notes + 1) → most_notes < room
 room_left room n few enough = omega arith
 
@@ -87,12 +87,12 @@ room_kept before now n enough less = omega arith
 pub block_small : (k n : ℕ) → k ≤ 4096 → n ≤ 16 → k * n ≤ 65536
 block_small k n a b = let h : k * n ≤ 4096 * 16 = mul-le-mul a b in omega (arith, h)
 
--- no more samples of a block are out of range than it has
+-- no more samples of a block are clipped than it has
 pub outside_few : (outside some long block : ℕ) → outside ≡ some → some ≤ long → long ≡ block → block ≤ 65536
     → outside < 2 ^ 32
 outside_few outside some long block here few same small = omega arith
 
--- the count of samples out of range stays small
+-- the count of clipped samples stays small
 pub outside_fits : (c : Composition) (p : ℤ → Bool) (n outside more : ℕ) → n < 2 ^ 32
     → c.head.ksmps * c.head.nchnls ≤ 65536
     → outside ≡ count_by p (frames_before c n) → more < 2 ^ 32 → Fits w64 (outside + more)
@@ -102,7 +102,7 @@ outside_fits c p n outside more small block is few =
     let most : n * (c.head.ksmps * c.head.nchnls) ≤ n * 65536 = mul-le-mul_left n block in
     omega (arith, some, long, most, is)
 
--- the values and frames of a file that is no longer than may be
+-- the numbers of values and frames of a file that isn't too long
 pub values_fit : (cycles ksmps channels width : ℕ) → cycles * ksmps * channels * width ≤ most_wav_bytes → 1 ≤ width
     → cycles * ksmps * channels ≤ most_wav_bytes
 values_fit cycles ksmps channels width bytes some =
@@ -122,7 +122,7 @@ pub some_width : (width : SampleWidth) → 1 ≤ bytes_of width
 some_width TwoBytes = omega arith
 some_width ThreeBytes = omega arith
 
--- the count of samples out of range, with those of one cycle more
+-- the count of clipped samples after one more cycle
 pub counted_more : (c : Composition) (p : ℤ → Bool) (n : ℕ) (mix : List ℤ) (outside more : ℕ) → mix ≡ mix_in c n
     → outside ≡ count_by p (frames_before c n) → more ≡ count_by p mix
     → outside + more ≡ count_by p (frames_before c (n + 1))

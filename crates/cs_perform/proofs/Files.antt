@@ -1,4 +1,4 @@
--- The bytes that a sink has taken, where it is written: piece behind piece, up to the whole file.
+-- The bytes that a sink has received, if it is written: piece after piece, up to the complete file.
 use Rattle.std.proofs.Common.{◌≡◌, ℕ, List, [], ◌++◌, refl, ap, sym, ◌∙◌, subst, inl, inr, append_assoc, append-nil}
 use Rattle.std.proofs.Common.{◌⊎◌, Some, Err}
 use Rattle.std.specs.Result.{IsErrOf}
@@ -9,7 +9,7 @@ use Rattle.cs_edge.proofs.Stories.{more_both, more_none, wrote_on, stopped_part,
 use Rattle.cs_perform.specs.{Hearing.IfWritten, Performances.HasAtLeast, declared.order.Output.Output}
 use Rattle.cs_perform.specs.declared.order.Output.TheVariants.{SoundFile, Nothing}
 
--- FRONTS
+-- PREFIXES
 
 pub front_all : (l : List ℕ) → IsFront l l
 front_all l = ([], sym (append-nil l))
@@ -18,7 +18,7 @@ pub front_behind : (before front bytes : List ℕ) → IsFront front bytes → I
 front_behind before front bytes f =
     (f.0, ap (λ (l : List ℕ). before ++ l) f.1 ∙ sym (append_assoc before front f.0))
 
--- WHAT A SINK HAS KEPT
+-- WHAT A SINK STILL HAS
 
 pub wrote_keeps : (a b : SinkTold) (name least bytes : List ℕ) → Wrote a b name bytes → IsFront least bytes
     → HasAtLeast name least a b
@@ -30,7 +30,7 @@ wrote_keeps a b name least bytes w f =
           f,
     )) a.held b.held w.taken
 
--- a call that took nothing
+-- a call with which nothing was written
 pub keeps_still : (a b c : SinkTold) (name least : List ℕ) → HasAtLeast name least a b
     → Follows b.held c.held (λ before now. now ≡ before)
     → HasAtLeast name least a c
@@ -103,7 +103,7 @@ module _ {W : Type 0} (tells : W → SinkTold) where
   file_kept SoundFile a b name least bytes p f = wrote_keeps (tells a) (tells b) name least bytes p f
   file_kept Nothing a b name least bytes p f = p
 
-  -- a piece that was written in part, behind the file so far
+  -- a piece that was written in part, after the file so far
   pub file_part : (w : Output) (a b c : W) (name xs ys whole : List ℕ)
       → IfWritten tells w a b (λ x y. Wrote x y name xs) → IfWritten tells w b c (λ x y. WrotePart x y ys)
       → IsFront (xs ++ ys) whole → IfWritten tells w a c (λ x y. Stopped x y name whole)
@@ -117,7 +117,7 @@ module _ {W : Type 0} (tells : W → SinkTold) where
       keeps_part (tells a) (tells b) (tells c) name least ys (wrote_keeps (tells a) (tells b) name least xs p f) q
   part_kept Nothing a b c name least xs ys p q f = q ∙ p
 
-  -- the count of faults stays meanwhile
+  -- the count of faults stays the same meanwhile
   pub same_after : (w : Output) (a b : W) (bytes : List ℕ) → IfWritten tells w a b (λ x y. WroteMore x y bytes)
       → (tells b).faults ≡ (tells a).faults
   same_after SoundFile a b bytes p = p.same
@@ -128,12 +128,12 @@ module _ {W : Type 0} (tells : W → SinkTold) where
   same_begun SoundFile a b name bytes p = p.same
   same_begun Nothing a b name bytes p = ap (λ (x : W). (tells x).faults) p
 
-  -- and rises where a piece is written in part
+  -- the count of faults rises if a piece is written in part
   pub rose_in_part : (w : Output) (a b : W) (bytes : List ℕ) → w ≡ SoundFile
       → IfWritten tells w a b (λ x y. WrotePart x y bytes) → Rose (tells a).faults (tells b).faults
   rose_in_part SoundFile a b bytes e p = p.rose
   rose_in_part Nothing a b bytes e p = absurd (cc)
 
--- the same error of another call
+-- the same error as the result of another call
 pub error_as : {A B E : Type 0} (x y : E) → IsErrOf {T = A} (Err x) y → IsErrOf {T = B} (Err x) y
 error_as x y e = let same : x ≡ y = cc in ap (λ (z : _). Err z) same

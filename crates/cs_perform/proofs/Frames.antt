@@ -7,7 +7,7 @@ use Rattle.std.proofs.lemmas.List.FromFn.{length-map-range_with_len}
 use Rattle.cs_piece_meaning.specs.{Course.played_in, Moments.Composition}
 use Rattle.cs_piece_meaning.specs.Heard.{frames_before, mix_in, sum_at}
 
--- one number more
+-- one more number
 range_more : (a n : ℕ) → range_with_len a (suc n) ≡ range_with_len a n ++ (a + n) ∷ []
 range_more a zero = ap (λ (k : ℕ). k ∷ []) (let e : a ≡ a + 0 = omega arith in e)
 range_more a (suc n) =
@@ -28,7 +28,7 @@ rows_more {A} f n =
 pub frames_before_more : (c : Composition) (n : ℕ) → frames_before c (n + 1) ≡ frames_before c n ++ mix_in c n
 frames_before_more c n = rows_more (mix_in c) n
 
--- a list of rows of one length
+-- a list of rows with the same length
 length-rows : {A : Type 0} (f : ℕ → List A) (k : ℕ) → ((x : ℕ) → length (f x) ≡ k) → (xs : List ℕ)
     → length (flat_map f xs) ≡ length xs * k
 length-rows f k each [] = let e : 0 ≡ 0 * k = omega arith in e
@@ -41,7 +41,7 @@ pub length-range : (a n : ℕ) → length (range_with_len a n) ≡ n
 length-range a zero = refl
 length-range a (suc n) = ap suc (length-range (a + 1) n)
 
--- how many values the frames of a cycle have, and those of the first cycles
+-- the number of values of a cycle's frames, and of the frames of the first cycles
 pub length-mix_in : (c : Composition) (n : ℕ) → length (mix_in c n) ≡ c.head.ksmps * c.head.nchnls
 length-mix_in c n =
     length-rows (λ frame. map (sum_at (played_in c n) frame) (range_with_len 0 c.head.nchnls)) c.head.nchnls
@@ -53,6 +53,6 @@ length-frames_before c n =
     length-rows (mix_in c) (c.head.ksmps * c.head.nchnls) (length-mix_in c) (range_with_len 0 n)
     ∙ ap (λ (k : ℕ). k * (c.head.ksmps * c.head.nchnls)) (length-range 0 n)
 
--- how many of two lists pass a test
+-- how many elements of two lists pass a test
 pub count_by_both : (p : ℤ → Bool) (xs ys : List ℤ) → count_by p (xs ++ ys) ≡ count_by p xs + count_by p ys
 count_by_both p xs ys = sum_by-append (λ x. cond (p x) 1 0) xs ys

@@ -12,7 +12,7 @@ use Rattle.cs_perform.specs.inner.Plays.{BreaksCycle, BrokeOn, PausedOn, PlayedO
 use Rattle.cs_perform.proofs.{Files.more_written, Files.none_written, Telling.told_nothing, Telling.told_twice}
 use Rattle.cs_perform.proofs.Frames.{frames_before_more, numbers_more}
 
--- one pair more
+-- one more pair
 zip_more : {A B : Type 0} (R : A → B → Type 0) (xs : List A) (ys : List B) (x : A) (y : B) → AllZip R xs ys → R x y
     → AllZip R (xs ++ x ∷ []) (ys ++ y ∷ [])
 zip_more R [] [] x y p r = (r, tt)
@@ -30,7 +30,7 @@ module _ {T W C : Type 0} (see : LentSight T W C) (c : Composition) where
     counted = λ h x. rw (f, append-nil h) x;
   }
 
-  -- from before the sink was begun on, or until after it was ended
+  -- a performance that began before the sink was opened, or lasted until after it was ended
   pub performed_from : (n : ℕ) (a b d : Lent T W C) → b.taps ≡ a.taps → b.tally ≡ a.tally → Performed see c n b d
       → Performed see c n a d
   performed_from n a b d e f p = record {
@@ -49,7 +49,7 @@ module _ {T W C : Type 0} (see : LentSight T W C) (c : Composition) where
     counted = rw f p.counted;
   }
 
-  -- one cycle more
+  -- one more cycle
   pub performed_more : (n : ℕ) (a b d : Lent T W C) → Performed see c n a b → Told see.stands b.taps d.taps (mix_in c n)
       → CountsCycle see.counted c n b.tally d.tally
       → Performed see c (n + 1) a d
@@ -65,7 +65,7 @@ module _ {T W C : Type 0} (see : LentSight T W C) (c : Composition) where
             (counts.counted (h ++ p.receipts) (p.counted h x));
       }
 
--- the samples of one cycle more
+-- the samples of one more cycle
 pub samples_more : (c : Composition) (width : SampleWidth) (dbfs : ℤ) (n : ℕ)
     → samples_of width dbfs (frames_before c (n + 1)) ≡ samples_of width dbfs (frames_before c n)
     ++ samples_of width dbfs (mix_in c n)
@@ -100,7 +100,7 @@ module _ {T W C : Type 0} (see : LentSight T W C) (request : Request) where
       → BreaksCycle see request n b d → BrokeOn see request a d
   broke_after n a b d lt p s = record { cycles = n; within = lt; between = b; played = p; broke = s }
 
-  -- memory was refused before this cycle
+  -- memory ran out before this cycle
   pub paused_before : (n : ℕ) (a b d : Lent T W C) → n ≤ c.cycles → d ≡ b → PlayedOn see request n a b
       → PausedOn see request a d
   paused_before n a b d le same p = record { cycles = n; within = le; played = rw same p }

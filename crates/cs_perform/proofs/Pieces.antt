@@ -11,7 +11,7 @@ pub begun_in_part : (a b c : SinkTold) (name first : List ℕ) → Wrote a b nam
     → Stopped a c name (first ++ rest)
 begun_in_part a b c name first w p rest = stopped_part a b c name [] first (first ++ rest) w p (rest, refl)
 
--- and its last ones
+-- the file's last bytes were written in part
 pub ended_in_part : (a b : SinkTold) (last : List ℕ) → WrotePart a b last → Stops last a b
 ended_in_part a b last p start name bytes w = (
   stopped_part start a b name bytes last (bytes ++ last) w p (front_all (bytes ++ last)),

@@ -1,4 +1,4 @@
--- Rows of jobs, and the same rows when their jobs have run.
+-- Rows of jobs, and the same rows after their jobs have run.
 use Rattle.std.proofs.Common.{◌≡◌, ◌<◌, ◌≤◌, ◌+◌, ◌+ℤ◌, ℕ, suc, ℤ, pos, List, [], ◌∷◌, ◌++◌, length, map, take, drop}
 use Rattle.std.proofs.Common.{get_or, refl, sym, ap, ◌∙◌, subst, arith, zero-add}
 use Rattle.std.specs.List.{All}
@@ -15,7 +15,7 @@ use Rattle.cs_row.specs.Heard.{HeardRow, heard_job, sum_at, sums}
 use Rattle.cs_row.specs.Rows.{IsFree, IsRow, notes_in, row_foot, row_job}
 
 module _ {J : Type 0} where
-  -- of the same jobs and the same lengths there are no other rows
+  -- rows with the same jobs and the same lengths are the same
   pub same_rows : (rows others : List (List J)) → notes_in rows ≡ notes_in others → map length rows ≡ map length others
       → rows ≡ others
   same_rows [] [] e f = refl
@@ -34,7 +34,7 @@ module _ {J : Type 0} where
       behind : map length (r ∷ rs) ≡ map length (o ∷ os) → map length rs ≡ map length os
       behind h = ap (λ (l : List ℕ). drop 1 l) h
 
-  -- there are no more rows than jobs
+  -- there are at most as many rows as jobs
   pub row_count : (M : Meaning J) (rows : List (List J)) → All (IsRow M) rows → length rows ≤ length (notes_in rows)
   row_count M [] all = omega arith
   row_count M (row ∷ rows) all =
@@ -44,7 +44,7 @@ module _ {J : Type 0} where
       length-append row (notes_in rows) in
       omega (arith, some, more, long)
 
-  -- what is so of a row where something is so of its first job
+  -- what holds for a row if something holds for its first job
   pub of_first : (M : Meaning J) (Q : J → Type 0) (G : List J → Type 0)
       → ((j : J) (js : List J) → Q j → G (j ∷ js)) → (rows : List (List J)) → All (IsRow M) rows
       → All Q (notes_in rows) → All G rows
@@ -93,7 +93,7 @@ module _ {J : Type 0} (M : Meaning J) (F : Frames M) where
       ap (λ (f : Footprint). f.writes) ((row_frames M F).foot_after row c)
       ∙ free (subst (λ (n : ℕ). 1 < n) (length-serial_jobs M row c) l)
 
-  -- rows that have run are rows of the jobs that have
+  -- rows that have run are rows of the jobs that have run
   pub rows_ran : (most : ℕ) (js : List J) (rows : List (List J)) (c : Cells) → AreRowsOf M most js rows
       → AreRowsOf M most (serial_jobs M js c) (serial_jobs (row_job M) rows c)
   rows_ran most js rows c is = record {
@@ -112,7 +112,7 @@ module _ {J : Type 0} (M : Meaning J) (shape : J → ℕ × ℕ) (gives : J → 
   abbrev IsLong : ℕ → HeardRow J → Type 0
   IsLong n r = length r.sum ≡ n
 
-  -- a run leaves the length of the sums
+  -- a run doesn't change the length of the sums
   pub sums_stay : (n : ℕ) (rows : List (HeardRow J)) (c : Cells) → All (λ r. length r.sum ≡ n) rows
       → All (λ r. length r.sum ≡ n) (serial_jobs (heard_job M shape gives) rows c)
   sums_stay n [] c all = all
@@ -126,7 +126,7 @@ module _ {J : Type 0} (M : Meaning J) (shape : J → ℕ × ℕ) (gives : J → 
   abbrev IsSummed : HeardRow J → Type 0
   IsSummed r = r.sum ≡ sums gives (length r.sum) r.jobs
 
-  -- the sums of rows at a place
+  -- the sums of rows at an index
   totals : (n at : ℕ) (rows : List (HeardRow J)) → at < n → All (λ r. length r.sum ≡ n) rows → All IsSummed rows
       → total (map (λ (r : HeardRow J). get_or r.sum at (pos 0)) rows)
       ≡ total (map (λ row. sum_at gives row at) (jobs_of rows))
@@ -138,7 +138,7 @@ module _ {J : Type 0} (M : Meaning J) (shape : J → ℕ × ℕ) (gives : J → 
       ∙ get_or-map-range_with_len (sum_at gives r.jobs) 0 n at at (pos 0) low (zero-add at) in
       λ i. here i +ℤ totals n at rows low (All-tail (IsLong n) r rows long) (All-tail IsSummed r rows summed) i
 
-  -- a block that has the total of the sums at each place has what the jobs of all rows give
+  -- a block with the total of the sums at each index has the sums of all rows' jobs
   pub block_of_rows : (n : ℕ) (block : List ℤ) (rows : List (HeardRow J))
       → ((rs : List (List J)) (at : ℕ) → sum_at gives (notes_in rs) at ≡ total (map (λ row. sum_at gives row at) rs))
       → length block ≡ n

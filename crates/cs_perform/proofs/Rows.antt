@@ -20,7 +20,7 @@ use Rattle.cs_perform.proofs.Ran.{feet_ran, lengths_ran, of_first, row_count, ro
 use Rattle.cs_perform.specs.{inner.Rows.rows_job, inner.Stands.IsInRows}
 
 module _ (voices after : List VoiceData) (most : ℕ) (lengths : List ℕ) (feet : List Footprint) where
-  -- of voices that have run
+  -- the rows of voices that have run
   pub rows_after : (c : Cells) → after ≡ serial_jobs voice_job voices c → IsInRows voices most lengths feet
       → IsInRows after most lengths feet
   rows_after c ran is = record {
@@ -30,7 +30,7 @@ module _ (voices after : List VoiceData) (most : ℕ) (lengths : List ℕ) (feet
     feet_are = feet_ran voice_job voice_job_frames is.rows c ∙ is.feet_are;
   }
 
--- rows that were cut, whose footprints these are
+-- rows that were cut, with these footprints
 pub in_rows : (voices : List VoiceData) (most : ℕ) (lengths : List ℕ) (feet : List Footprint)
     → IsCut voice_job most voices lengths
     → ((rows : List (List VoiceData)) → AreRowsOf voice_job most voices rows → map length rows ≡ lengths
@@ -39,7 +39,7 @@ pub in_rows : (voices : List VoiceData) (most : ℕ) (lengths : List ℕ) (feet 
 in_rows voices most lengths feet cut are =
     record { rows = cut.rows; of = cut.of; lengths = cut.lengths; feet_are = sym (are cut.rows cut.of cut.lengths) }
 
--- there are no more of them than voices
+-- there are at most as many rows as voices
 pub few_rows : (voices : List VoiceData) (most : ℕ) (lengths : List ℕ) (feet : List Footprint)
     → IsInRows voices most lengths feet → length voices ≤ most_notes → length feet ≤ most_notes
 few_rows voices most lengths feet is few =
@@ -77,7 +77,7 @@ module _ (filled : List (HeardRow VoiceData)) {voices : List VoiceData} {most : 
       of_jobs P filled
       (of_first voice_job Q P so (jobs_of filled) of.are (subst (λ (l : List VoiceData). All Q l) (sym of.whole) all))
 
-  -- the rows as they were filled can be played
+  -- the filled rows can be played
   pub rows_cycle : {D : Type 0} (desk : Desk D) (course : Course) (lengths : List ℕ)
       → map length (jobs_of filled) ≡ lengths → IsInRows voices most lengths course.feet.items
       → IsCourseOf course.feet.items course → All (λ (v : VoiceData). v.zones ≡ areas desk) voices
@@ -100,7 +100,7 @@ module _ (filled : List (HeardRow VoiceData)) {voices : List VoiceData} {most : 
         room = subst (λ (n : ℕ). HasRoom desk n (length course.graph.value.edges)) (sym count) room;
       }
 
--- Rows of voices have run over a desk: so have the voices.
+-- If rows of voices have run on a desk, the voices have.
 pub record HaveRun {D : Type 0} (voices : List VoiceData) (filled played : List (HeardRow VoiceData))
     (desk rested : Desk D) : Type 0 where
   pub notes : all_notes played ≡ serial_jobs voice_job voices (cells desk)
@@ -129,14 +129,14 @@ have_run {voices} {filled} {desk} of was laws =
       summed = rw was.jobs_are law.summed;
     }
 
--- What the notes of a cycle give at each place of the block is what is heard.
+-- The sums of a cycle's notes at each index of the block are what is heard.
 pub heard_of : (frames channels len : ℕ) (voices : List VoiceData) (block mix : List ℤ)
     → All (λ (v : VoiceData). shape v ≡ (frames, channels)) voices → len ≡ frames * channels
     → block ≡ sums gives len voices → mixed frames channels voices ≡ mix → block ≡ mix
 heard_of frames channels len voices block mix shapes long is heard =
     is ∙ ap (λ (n : ℕ). sums gives n voices) long ∙ sums_are_mixed frames channels voices shapes ∙ heard
 
--- no note gives nothing
+-- the sum of no notes is 0
 pub silent : (voices : List VoiceData) (n : ℕ) → length voices ≡ 0 → replicate n (pos 0) ≡ sums gives n voices
 silent [] n none = splat_is_map (range_with_len 0 n) n (pos 0) (length-range_with_len 0 n)
 silent (v ∷ voices) n none = absurd (omega (arith, none))

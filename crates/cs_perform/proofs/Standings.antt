@@ -1,4 +1,4 @@
--- What is kept of a performance, from step to step.
+-- The state of a performance, from step to step.
 use Rattle.std.proofs.Common.{subst, ◌≡◌, ℕ, zero, suc, ℤ, pos, List, ◌∷◌, length, replicate, refl, ap, sym, ◌∙◌}
 use Rattle.std.specs.{List.All, Option.IsSomeAnd, Prelude.Result, Prelude.Ok, Prelude.Err, Prelude.OnOk}
 use Rattle.std.specs.Prelude.{Option, Some, None}
@@ -15,7 +15,7 @@ use Rattle.cs_perform.specs.declared.order.PerformanceOrder.{PerformanceOrder}
 use Rattle.cs_perform.specs.{declared.recording.Recording.Recording, inner.Recordings.IsRecordingOf}
 use Rattle.cs_perform.specs.{declared.stand.Stand.Stand, inner.Stands.IsAt}
 
--- a step that is told of the life's own setup
+-- a step whose setup is the life's own
 pub of_setup : (s : SetupData) (life : Life) (voices : List VoiceData) (cells : Cells) (m : Moment) → life.setup.now ≡ s
     → StandsFor (composition_of s) life voices cells m → StandsFor (composition_of life.setup.now) life voices cells m
 of_setup s life voices cells m is st =
@@ -33,14 +33,14 @@ begun_at s t life next voices voices' cells cells' cycle m is step st =
     λ u. StandsFor (composition_of u) next voices' cells' (begins (composition_of u) cycle m) in
     subst Q is (step m (subst P (sym is) st))
 
--- what is so of voices in the areas of the stage is so of them in those of the desk
+-- what holds for voices in the areas of the stage holds in the desk's areas
 pub areas_of_desk : (s : SetupData) (life : Life) (areas : List Area) (voices : List VoiceData) (cells : Cells)
     (m : Moment)
     → life.setup.now ≡ s → areas ≡ s.zones → StandsFor (composition_of s) life voices cells m
     → life.stage.zones.now ≡ areas
 areas_of_desk s life areas voices cells m is e st = st.zones ∙ ap (λ (t : SetupData). t.zones) is ∙ sym e
 
--- the zones have as many cells as the layout
+-- there are as many cells in the zones as in the layout
 pub words_of_desk : (s : SetupData) (life : Life) (areas : List Area) (voices : List VoiceData) (cells : Cells)
     (m : Moment)
     → life.setup.now ≡ s → areas ≡ s.zones → StandsFor (composition_of s) life voices cells m
@@ -49,7 +49,7 @@ words_of_desk s life areas voices cells m is e st =
     ap word_count (sym st.layout) ∙ sym st.stand.stage_is.zones.words
     ∙ ap word_count (areas_of_desk s life areas voices cells m is e st)
 
--- whoever may read and set each of so many cells may do so below as many
+-- access to each of m cells is access to each cell below the same number
 pub allows_all : (n m : ℕ) → n ≡ m → AllowsBelow (full_access m) n
 allows_all n m same =
     subst (λ k. AllowsBelow (full_access k) n) same (record {
@@ -69,7 +69,7 @@ pub own_course : (feet : List Footprint) (course : Course) → IsCourseOf feet c
 own_course feet course is =
     let P : List Footprint → Type 0 = λ l. IsCourseOf l course in subst P (sym is.feet_are) is
 
--- a course whose graph came back
+-- a course with the same graph and footprints
 pub kept_course : (course next : Course) → next.graph.value ≡ course.graph.value → next.feet.items ≡ course.feet.items
     → IsCourseOf course.feet.items course → IsCourseOf next.feet.items next
 kept_course course next same feet is = record {
@@ -79,14 +79,14 @@ kept_course course next same feet is = record {
   levelled = rw (feet, same) is.levelled;
 }
 
--- voices and cells that came back
+-- voices and cells after the serial run
 pub ran_at : (c : Composition) (life : Life) (voices voices' : List VoiceData) (cells cells' : Cells) (m : Moment)
     → voices' ≡ serial_jobs voice_job voices cells → cells' ≡ serial_cells voice_job voices cells
     → StandsFor c life (serial_jobs voice_job voices cells) (serial_cells voice_job voices cells) m
     → StandsFor c life voices' cells' m
 ran_at c life voices voices' cells cells' m jobs left st = rw (jobs, left) st
 
--- the footprints of the voices are over the desk's areas
+-- the footprints of the voices are in terms of the desk's areas
 pub areas_same : (s : SetupData) (life : Life) (areas : List Area) (voices : List VoiceData) (cells : Cells)
     (m : Moment)
     → life.setup.now ≡ s → areas ≡ s.zones → StandsFor (composition_of s) life voices cells m
@@ -102,19 +102,19 @@ pub feet_in_areas : (s : SetupData) (life : Life) (areas : List Area) (voices : 
 feet_in_areas s life areas voices cells m is e st all =
     rw (← areas_of_desk s life areas voices cells m is e st) all
 
--- how all stands, said of what a call took
+-- the state of a sounder, in terms of a call's argument
 pub stands_so : {S : Type 0} (is_at : SetupData → S → Moment → Type 0) (s : SetupData) (sounder : S) (m : Moment)
     → is_at s sounder m → is_at s sounder m
 stands_so is_at s sounder m at = at
 
--- what is recorded stays so, whatever comes of the end
+-- a recording stays one, whatever the result
 pub still_recorded : {A E : Type 0} (r : Result A E) (s : SetupData) (order : PerformanceOrder) (n : ℕ)
     (recording : Recording)
     → IsRecordingOf s order n recording → OnOk r (IsRecordingOf s order n recording)
 still_recorded (Ok x) s order n recording is = is
 still_recorded (Err e) s order n recording is = tt
 
--- what is kept, where it is there
+-- the state of an ensemble, if it isn't out
 module _ {G : Type 0} (s : SetupData) (m : Moment) where
   abbrev IsThere : Option (Stand G) → Type 0
   IsThere o = IsSomeAnd o (λ (stand : Stand G). IsAt s stand m)
@@ -130,7 +130,7 @@ module _ {G : Type 0} (s : SetupData) (m : Moment) where
   pub never_gone : {B : Type 0} (o : Option (Stand G)) → o ≡ None → IsSomeAnd o (λ (x : Stand G). IsAt s x m) → B
   never_gone o is at = absurd (subst IsThere is at)
 
-  -- what was there was taken
+  -- the state was there and was taken
   pub never_taken : {B : Type 0} (o took : Option (Stand G)) → took ≡ o → ((x : Stand G) → took ≡ Some x → ⊥)
       → IsSomeAnd o (λ (x : Stand G). IsAt s x m) → B
   never_taken None took same none at = absurd at

@@ -1,4 +1,4 @@
--- The counts of starts, which 64 bits hold.
+-- The counts of starts, which fit into 64 bits.
 use Rattle.std.proofs.Common.{◌≡◌, ◌≤◌, ◌+◌, ◌*◌, ◌∙◌, ℕ, ap, arith}
 use Rattle.cs_base.specs.Limits.{most_asks, most_events, most_statements}
 use Rattle.cs_life.specs.Standing.{kept_count}

@@ -1,4 +1,4 @@
--- What a tally has counted that counts the first cycles of a piece.
+-- The counts of a tally that counts the first cycles of a piece.
 use Rattle.std.proofs.Common.{◌≡◌, ◌∙◌, ℕ, ◌+◌, List, [], ◌∷◌, ◌++◌, length, map, sum, refl, ap, sym}
 use Rattle.std.specs.List.{AllZip, range_with_len}
 use Rattle.std.proofs.lemmas.{List.length-append, List.map-append, List.Sums.sum_by-append, Slice.Zip.AllZip-long}

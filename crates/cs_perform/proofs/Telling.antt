@@ -1,4 +1,4 @@
--- Taps that are told one after another, and again and again.
+-- Passing frames to taps one after another, cycle by cycle.
 use Rattle.std.proofs.Common.{◌≡◌, ◌<◌, ◌+◌, ℕ, ℤ, List, [], ◌∷◌, ◌++◌, length, take, drop, set, get_or, sym, ap, subst}
 use Rattle.std.proofs.{Common.◌∙◌, Common.append_assoc, Common.append-nil, Common.arith, Math.Seq.take-length}
 use Rattle.std.specs.List.{AllZip}
@@ -6,23 +6,23 @@ use Rattle.std.proofs.lemmas.List.{drop-drop, drop-set-lt, get_or-drop, length-s
 use Rattle.std.proofs.lemmas.List.Elements.{AllZip-push}
 use Rattle.cs_perform.specs.Hearing.{Told}
 
--- The first taps were told, the others not yet.
+-- The first taps have received the frames, the others not yet.
 pub record ToldFirst {T : Type 0} (stands_for : T → List ℤ → Type 0) (before now : List T) (frames : List ℤ)
     (n : ℕ) : Type 0 where
   pub first : Told stands_for (take n before) (take n now) frames
   pub rest : drop n now ≡ drop n before
   pub long : length now ≡ length before
 
--- the item behind the first i
+-- the element after the first i
 get_here : {T : Type 0} (l : List T) (i : ℕ) (d : T) → get_or (drop i l) 0 d ≡ get_or l i d
 get_here l i d = get_or-drop i l 0 d ∙ ap (λ (k : ℕ). get_or l k d) (let here : i + 0 ≡ i = omega arith in here)
 
--- none told yet
+-- no tap has received the frames yet
 pub told_none_first : {T : Type 0} (S : T → List ℤ → Type 0) (before now : List T) (frames : List ℤ) → now ≡ before
     → ToldFirst S before now frames 0
 told_none_first S before now frames e = record { first = tt; rest = e; long = ap length e }
 
--- one told more
+-- one more tap has received the frames
 pub told_one_more : {T : Type 0} (S : T → List ℤ → Type 0) (before now : List T) (frames : List ℤ) (i : ℕ) (x y : T)
     → i < length now → x ≡ get_or now i x → ((h : List ℤ) → S x h → S y (h ++ frames)) → ToldFirst S before now frames i
     → ToldFirst S before (set now i y) frames (i + 1)
@@ -43,7 +43,7 @@ told_one_more {T} S before now frames i x y lt is told r =
       long = length-set now i y ∙ r.long;
     }
 
--- all told
+-- all taps have received the frames
 pub told_all : {T : Type 0} (S : T → List ℤ → Type 0) (before now : List T) (frames : List ℤ) (i : ℕ) → i ≡ length now
     → ToldFirst S before now frames i → Told S before now frames
 told_all {T} S before now frames i e r =
@@ -52,12 +52,12 @@ told_all {T} S before now frames i e r =
     let whole' : take i now ≡ now = ap (λ (k : ℕ). take k now) e ∙ take-length now in
     rw (whole, whole') at r.first
 
--- told nothing
+-- taps that have received nothing
 pub told_nothing : {T : Type 0} (S : T → List ℤ → Type 0) (taps : List T) → Told S taps taps []
 told_nothing S [] = tt
 told_nothing S (t ∷ ts) = (λ h s. subst (S t) (sym (append-nil h)) s, told_nothing S ts)
 
--- told some frames and then others
+-- taps that have received some frames and then others
 pub told_twice : {T : Type 0} (S : T → List ℤ → Type 0) (before now after : List T) (xs ys : List ℤ)
     → Told S before now xs → Told S now after ys → Told S before after (xs ++ ys)
 told_twice S [] [] [] xs ys p q = tt

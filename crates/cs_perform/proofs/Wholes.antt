@@ -1,4 +1,4 @@
--- The whole file, and its fronts.
+-- The complete file, and its prefixes.
 use Rattle.std.proofs.Common.{◌≡◌, ◌≤◌, ◌<◌, ℕ, zero, suc, ◌+◌, ◌*◌, ◌-◌, ◌%◌, ◌==◌, Bool, true, false, ℤ, Result, Ok}
 use Rattle.std.proofs.Common.{Err, OnOk, List, [], ◌++◌, length, replicate, refl, ap, sym, ◌∙◌, subst, arith}
 use Rattle.std.proofs.{Common.append_assoc, Common.append-nil, Common.if◌then◌else◌, Math.Nat.mul_assoc}
@@ -24,13 +24,13 @@ use Rattle.cs_perform.proofs.Frames.{frames_before_more, length-frames_before}
 use Rattle.cs_perform.proofs.Performing.{performed_from, performed_more, performed_none, performed_until, samples_more}
 use Rattle.cs_perform.specs.declared.order.PlayFault.TheVariants as fault
 
--- the byte 0 behind samples of odd size
+-- the byte 0 after samples of odd size
 one_or_none : (r : ℕ) → r < 2 → padding (r == 1) ≡ replicate r 0
 one_or_none zero lt = refl
 one_or_none (suc zero) lt = refl
 one_or_none (suc (suc r)) lt = absurd (omega arith)
 
--- the header and the samples of all cycles, and the byte 0 where it stands behind them, are the file
+-- the header, the samples of all cycles and the byte 0, if it follows them, are the file
 wav_is : (c : Composition) (head : Head) (width : SampleWidth) (last : List ℕ)
     → last ≡ replicate (length (frames_of c) * bytes_of width % 2) 0
     → front_after c head width c.cycles ++ last ≡ wav_of (frames_of c) head width
@@ -46,14 +46,14 @@ wav_ends c head width odd values e is =
     (ap padding is ∙ one_or_none (values * bytes_of width % 2) (omega arith)
     ∙ ap (λ (k : ℕ). replicate (k * bytes_of width % 2) 0) e)
 
--- the file after the last cycle is whole
+-- the file after the last cycle is complete
 pub file_after_all : (c : Composition) (head : Head) (width : SampleWidth)
     → file_after c head width c.cycles ≡ wav_of (frames_of c) head width
 file_after_all c head width =
     ap (λ (b : Bool). if b then wav_of (frames_of c) head width else front_after c head width c.cycles)
     (eq-eqb c.cycles c.cycles refl)
 
--- header and samples are a front of it
+-- the header and the samples are a prefix of the file
 front_of_wav : (c : Composition) (head : Head) (width : SampleWidth)
     → IsFront (front_after c head width c.cycles) (wav_of (frames_of c) head width)
 front_of_wav c head width =
@@ -71,7 +71,7 @@ pub front_in_file : (c : Composition) (head : Head) (width : SampleWidth) (n : �
     → IsFront (front_after c head width n) (file_after c head width n)
 front_in_file c head width n = front_by_test c head width n (n == c.cycles) refl
 
--- the frames of some cycles stand in front of those of more
+-- the frames of some cycles are a prefix of the frames of more cycles
 record FramesFront (c : Composition) (n m : ℕ) : Type 0 where
   rest : List ℤ
   split : frames_before c m ≡ frames_before c n ++ rest
@@ -108,7 +108,7 @@ front_of_all : (c : Composition) (head : Head) (width : SampleWidth) (n : ℕ) �
     → IsFront (front_after c head width n) (front_after c head width c.cycles)
 front_of_all c head width n le = front_of_more c head width n c.cycles le
 
--- header and samples, and those of one cycle more
+-- the header and the samples, and the samples of one more cycle
 front_one_more : (c : Composition) (head : Head) (width : SampleWidth) (n : ℕ)
     → front_after c head width (n + 1) ≡ front_after c head width n ++ samples_of width head.dbfs (mix_in c n)
 front_one_more c head width n =
@@ -117,7 +117,7 @@ front_one_more c head width n =
     ∙ sym (append_assoc opening (samples_of width head.dbfs (frames_before c n))
     (samples_of width head.dbfs (mix_in c n)))
 
--- and so is the file after any number of cycles
+-- the file after any number of cycles is a prefix of the complete one
 file_front_by : (c : Composition) (head : Head) (width : SampleWidth) (n : ℕ) (b : Bool) → n ≤ c.cycles
     → IsFront (if b then wav_of (frames_of c) head width else front_after c head width n)
     (wav_of (frames_of c) head width)
@@ -131,7 +131,7 @@ pub file_front : (c : Composition) (head : Head) (width : SampleWidth) (n : ℕ)
     → IsFront (file_after c head width n) (wav_of (frames_of c) head width)
 file_front c head width n le = file_front_by c head width n (n == c.cycles) le
 
--- the header of so many frames is that of the piece
+-- the header for this number of frames is the piece's header
 pub values_are : (c : Composition) (frames channels : ℕ) → frames ≡ c.cycles * c.head.ksmps → channels ≡ c.head.nchnls
     → frames * channels ≡ length (frames_of c)
 values_are c frames channels e f =
@@ -146,7 +146,7 @@ pub header_is : (c : Composition) (head : Head) (width : SampleWidth) (frames : 
 header_is c head width frames first e f is =
     is ∙ ap (λ (k : ℕ). header_bytes width (k * bytes_of width) head) (values_are c frames head.nchnls e f)
 
--- the end of a file, by its last bytes
+-- the end of a file, from its last bytes
 module _ {W : Type 0} (tells : W → SinkTold) (c : Composition) (head : Head) (width : SampleWidth) where
   pub closes : (w : Output) (a b : W) (last : List ℕ)
       → front_after c head width c.cycles ++ last ≡ wav_of (frames_of c) head width
@@ -209,7 +209,7 @@ module _ {T W C : Type 0} (see : LentSight T W C) (request : Request) where
   abbrev name : List ℕ
   name = request.name
 
-  -- the same, of what another call answered
+  -- the same, for the result of another call
   pub performs_ok : {A B : Type 0} (a b : Lent T W C) (x : A) (y : B)
       → Performs see request a b (let r : Result A PlayFault = Ok x in r)
       → Performs see request a b (let r : Result B PlayFault = Ok y in r)
@@ -230,7 +230,7 @@ module _ {T W C : Type 0} (see : LentSight T W C) (request : Request) where
     sink = λ e. p.sink (error_as f fault.Sink e);
   }
 
-  -- memory was refused before anything was done
+  -- memory ran out before anything was done
   pub performs_nothing : {A : Type 0} (a : Lent T W C)
       → Performs see request a a (let r : Result A PlayFault = Err fault.OutOfMemory in r)
   performs_nothing a =
@@ -253,10 +253,10 @@ module _ {T W C : Type 0} (see : LentSight T W C) (request : Request) where
         sink = λ e. absurd (not_sink e);
       }
 
-  -- from before the sink was begun on
+  -- a performance that began before the sink was opened
   module _ (first : List ℕ) (a b : Lent T W C) (taps : b.taps ≡ a.taps) (tally : b.tally ≡ a.tally)
       (is : first ≡ header_bytes order.width (length (frames_of c) * bytes_of order.width) head) where
-    -- the file was begun in part
+    -- the start of the file was written in part
     part_begun : ((rest : List ℕ)
         → IfWritten see.wav order.output a.wav b.wav (λ x y. Stopped x y name (first ++ rest)))
         → IsPart see request a b
@@ -290,7 +290,7 @@ module _ {T W C : Type 0} (see : LentSight T W C) (request : Request) where
       calm : (see.wav b.wav).faults ≡ (see.wav a.wav).faults
       calm = same_begun see.wav order.output a.wav b.wav name first begun
 
-      -- the file after so many cycles
+      -- the file after n cycles
       written_so_far : (n : ℕ) (e : Lent T W C) → PlayedOn see request n b e
           → IfWritten see.wav order.output a.wav e.wav (λ x y. Wrote x y name (front_after c head order.width n))
       written_so_far n e p =
@@ -299,7 +299,7 @@ module _ {T W C : Type 0} (see : LentSight T W C) (request : Request) where
           λ l. IfWritten see.wav order.output a.wav e.wav (λ x y. Wrote x y name (l ++ sounds)) in
           subst P is (file_written see.wav order.output a.wav b.wav e.wav name first sounds begun p.written)
 
-      -- and the sink failed in the next one
+      -- the sink failed in the next cycle
       part_broke : BrokeOn see request b d → IsPart see request a d
       part_broke p =
           let n : ℕ = p.cycles in
@@ -323,7 +323,7 @@ module _ {T W C : Type 0} (see : LentSight T W C) (request : Request) where
                 (front_all (front_after c head order.width n)));
           }
 
-      -- or memory was refused between two of them
+      -- memory ran out between two cycles
       paused_between : PausedOn see request b d → IsPaused see request a d
       paused_between p =
           record {
@@ -376,7 +376,7 @@ module _ {T W C : Type 0} (see : LentSight T W C) (request : Request) where
         sink = λ e. absurd (not_sink e);
       }
 
-    -- all cycles were played, and it was closed, or not
+    -- all cycles were played, and the file was ended, or not
     module _ (begun : IfWritten see.wav order.output a.wav b.wav (λ x y. Wrote x y name first)) (d : Lent T W C)
         (all : PlayedOn see request c.cycles b d) (z : Lent T W C) (taps' : z.taps ≡ d.taps)
         (tally' : z.tally ≡ d.tally) where

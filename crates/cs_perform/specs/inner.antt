@@ -1,4 +1,4 @@
--- what only private clauses cite
+-- Definitions that only private clauses cite.
 pub mod Crews
 pub mod Ends
 pub mod Plays

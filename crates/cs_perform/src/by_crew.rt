@@ -1,4 +1,4 @@
-// A performance by a crew, whose helpers are threads of a scope that lasts for the performance.
+// A performance with a crew, whose helpers are threads of a scope that lasts for the performance.
 ghost use Rattle.std.specs.Prelude.{◌≡◌};
 ghost use Rattle.cs_perform.specs.Performances.{PerformsPiece, lent, lent_sight, request_of};
 ghost use Rattle.cs_perform.specs.inner.Crews.{HasPlace};
@@ -15,11 +15,11 @@ use std::sync::Wait;
 use std::thread;
 use std::thread::Threads;
 
-/// The gate that the crew calls before each row of notes, which itself calls the caller's gate before each note.
+// The gate that the crew calls before each row of notes; each row calls the caller's gate before each note.
 static OPEN: OpenGate = OpenGate {};
 
-/// The performance by a crew whose helpers are threads of a scope of its own, and have ended when it returns. What is
-/// lent comes back.
+/// Performs a piece with a crew whose helpers are threads of a separate scope, and have ended when it
+/// returns. What was lent comes back.
 pub(crate) fn play_in_scope<'a, K: Sink, C: Counter, R: Threads + Wait + Sync, G: Gate + Sync>(
     performance: &Performance<'_>,
     crew: &Crew<'_, R, G>,
@@ -46,7 +46,7 @@ pub(crate) fn play_in_scope<'a, K: Sink, C: Counter, R: Threads + Wait + Sync, G
                 (lent loan.entry.wav.now loan.entry.taps.now.items loan.entry.tally.now)
                 (lent result.1.wav.now result.1.taps.now.items result.1.tally.now) result.0 }
         {
-            // It is captured whole, as the clauses name it.
+            // The loan is captured as one value, as the clauses name it.
             let mut loan = loan;
             let mut pool = Pool::new(crew.rt, scope, performance.alloc, crew.workers, &OPEN);
             let played = play_by_pool(performance, crew.gate, &mut pool, &mut loan);
@@ -56,7 +56,7 @@ pub(crate) fn play_in_scope<'a, K: Sink, C: Counter, R: Threads + Wait + Sync, G
     )
 }
 
-/// The performance by a standing crew.
+// Performs a piece with a standing crew.
 fn play_by_pool<'t, K: Sink, C: Counter, R: Wait, G: Gate>(
     performance: &Performance<'t>,
     gate: &'t G,

@@ -1,17 +1,18 @@
-// Who counts the cycles of a performance.
+// Counting the cycles of a performance.
 ghost use Rattle.std.specs.Prelude.{◌≡◌, ◌<◌, ◌≤◌, ◌+◌, ℕ, ◌∷◌, [], ◌++◌, length};
 ghost use Rattle.cs_perform.specs.Counted.{CountsOn, IsTallyOf, Receipts, room_of};
 
 use cs_desk::{Receipt, Tally};
 use cs_voice::Voice;
 
-/// Counts the cycles of a performance, each by its receipt, which holds the voices of the cycle as it left them. How it
-/// counts is its own affair: whoever is lent one knows that it has counted a receipt by `count` alone.
+/// Counts the cycles of a performance, each by its receipt, which holds the voices as the cycle left them.
+/// Each counter may count in its own way: the caller of a performance only knows that `count` has counted a
+/// receipt.
 pub trait Counter {
-    /// Whether it has counted these receipts, in this order, and no others.
+    /// Whether it has counted exactly these receipts, in this order.
     ghost has_counted: { Self → Receipts → Type 0 };
 
-    /// How much it has room for: a cycle takes at most one, and one for each of its notes.
+    /// How much more it can count: a cycle needs at most one, and one for each of its notes.
     ghost room: { Self → ℕ };
 
     /// Counts a cycle by its receipt, and returns the voices.
@@ -22,7 +23,7 @@ pub trait Counter {
         ensures room { room self.old ≤ room self.new + (length receipt.entry + 1) };
 }
 
-/// A tally counts how many cycles there were, and how many notes they had together.
+/// A tally counts the cycles, and the notes of all of them.
 impl Counter for Tally {
     ghost use Rattle.std.specs.Prelude.{◌≡◌, ◌<◌, ◌≤◌, ◌+◌, ◌++◌, ◌∷◌, [], length};
     ghost use Rattle.cs_perform.specs.Counted.{CountsOn, IsTallyOf, Receipts, room_of};

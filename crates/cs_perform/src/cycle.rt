@@ -22,7 +22,7 @@ use cs_base::Head;
 use cs_edge::{Failed, Sink, Tap};
 use cs_wav::pcm_block;
 
-/// A cycle is performed, and its samples are written.
+/// Performs a cycle, and writes its samples.
 pub(crate) fn play_cycle<K: Sink, C: Counter, S: Sounder>(
     performance: &Performance<'_>,
     cycle: u32,
@@ -76,8 +76,8 @@ pub(crate) fn play_cycle<K: Sink, C: Counter, S: Sounder>(
     Ok(())
 }
 
-/// The mix of a cycle is told to the taps, and its samples are written. Returns how many of them had to be brought
-/// into range.
+/// Passes the mix of a cycle to the taps, and writes its samples. Returns the number of samples that were
+/// clipped.
 pub(crate) fn pour<K: Sink>(
     order: PerformanceOrder,
     head: &Head,

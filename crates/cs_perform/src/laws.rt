@@ -1,4 +1,4 @@
-// What holds of performances: calls that do nothing, whose contracts are the laws.
+// What holds for performances: calls that do nothing as they run, whose contracts are the laws.
 ghost use Rattle.std.specs.Prelude.{◌≡◌, ◌≤◌, ◌+◌, ℕ};
 ghost use Rattle.cs_base.specs.{declared.head.Head.Head, declared.width.SampleWidth.SampleWidth};
 ghost use Rattle.cs_desk.specs.declared.receipt.Tally.{Tally};
@@ -8,14 +8,14 @@ ghost use Rattle.cs_perform.specs.Counted.{AreHeardBefore, CountsOn, IsTallyOf, 
 ghost use Rattle.cs_perform.specs.Performances.{file_after};
 ghost use Rattle.cs_wav.specs.Wav.{wav_of};
 
-/// The file as it stands after any number of cycles is a front of the whole file.
+/// For the prover: the file after any number of cycles is a prefix of the complete file.
 pub fn early_stops_are_fronts()
     ensures { (c : Composition) (head : Head) (width : SampleWidth) (n : ℕ) → n ≤ c.cycles
         → IsFront (file_after c head width n) (wav_of (frames_of c) head width) }
 {}
 
-/// A tally that counts the receipts of the first cycles of a piece has grown by as many cycles, and by the notes that
-/// are performed in them.
+/// For the prover: a tally that counts the receipts of the first cycles of a piece has grown by the number of
+/// these cycles, and by the number of notes that are performed in them.
 pub fn tallies_count_cycles_and_notes()
     ensures { (c : Composition) (n : ℕ) (before now : Tally) (earlier receipts : Receipts) → IsTallyOf earlier before
         → AreHeardBefore c n receipts → CountsOn (λ t counted. IsTallyOf counted t) before now receipts

@@ -1,4 +1,4 @@
-// What a performance is asked for, and what comes of it.
+// The order for a performance, and its outcome.
 use cs_base::{Bytes, SampleWidth};
 use cs_piece::Setup;
 use std::alloc::Global;
@@ -8,18 +8,18 @@ use std::alloc::Global;
 pub enum Output {
     /// Into the sound file.
     SoundFile,
-    /// Nowhere: the sink has no call.
+    /// Nowhere: the sink receives no call.
     Nothing,
 }
 
-/// Whether the lines of turns are told.
+/// Whether the report has the lines of turns.
 #[derive(Clone, Copy)]
 pub enum TurnLines {
     Told,
     Untold,
 }
 
-/// What is asked for.
+/// The order for a performance.
 #[derive(Clone, Copy)]
 pub struct PerformanceOrder {
     pub output: Output,
@@ -27,39 +27,39 @@ pub struct PerformanceOrder {
     pub turns: TurnLines,
 }
 
-/// What is performed: a piece, as the order says, into a sound file of this name.
+/// What is performed: a piece, as the order says, into a sound file with this name.
 #[derive(Clone, Copy)]
 pub struct Performance<'t> {
-    /// Where memory comes from.
+    /// The allocator.
     pub alloc: Global,
     pub setup: &'t Setup,
     pub order: PerformanceOrder,
-    /// The name under which the sound file is begun.
+    /// The name under which the sound file is opened.
     pub name: &'t str,
 }
 
-/// What comes out beside the sound.
+/// The outcome of a performance besides the sound.
 #[derive(Drop)]
 pub struct Outcome {
-    /// How many frames there are, each of which has a value a channel.
+    /// The number of frames, each with a value for each channel.
     pub frames: u32,
-    /// How many control cycles.
+    /// The number of control cycles.
     pub cycles: u32,
-    /// How many starts there were that started a note.
+    /// The number of starts that started a note.
     pub started: u64,
-    /// How many starts there were that started nothing.
+    /// The number of starts that started nothing.
     pub not_started: u64,
-    /// How many samples had to be brought into range.
+    /// The number of samples that were clipped.
     pub out_of_range: u64,
-    /// The lines of turns of the first 1,000 cycles, where they were asked for.
+    /// The lines of turns of the first 1,000 cycles; empty if they weren't asked for.
     pub turns: Bytes,
 }
 
-/// Why a piece wasn't performed whole.
+/// The reason why a piece wasn't performed to its end.
 #[derive(Clone, Copy)]
 pub enum PlayFault {
     /// The sink failed.
     Sink,
-    /// Memory was refused.
+    /// Memory ran out.
     OutOfMemory,
 }

@@ -1,4 +1,4 @@
-// A piece is performed into a sink, to taps, and counted.
+// Performing a piece into a sink, to taps, and counted.
 ghost use Rattle.std.specs.Prelude.{◌≡◌, ◌*◌, ◌≤◌, ◌^◌, IfOk, OnOk, IsErrOf};
 ghost use Rattle.cs_base.specs.{Limits.most_wav_bytes, Widths.bytes_of};
 ghost use Rattle.cs_piece_meaning.specs.Course.{moment_at, opening};
@@ -26,11 +26,12 @@ use cs_pool::Crew;
 use std::sync::Wait;
 use std::thread::Threads;
 
-/// Performs a piece: cycle by cycle its notes are run by the crew, `tally` counts the cycle by its receipt, the mix
-/// is told to each of `taps`, and its samples are written to `wav`, which is begun with the performance's name, where
-/// the order says so. Blocks and the opening take their memory before the sink is begun; notes, graphs and larger
-/// desks take theirs as they come. `Sink` where a call of the sink failed, `OutOfMemory` where memory was refused.
-/// `tally` has room for 2^42 cycles and notes, and the samples of the piece are at most 2^31 bytes.
+/// Performs a piece, cycle by cycle: the crew runs the notes, `tally` counts the cycle by its receipt, the
+/// mix is passed to each of `taps`, and if the order says so its samples are written to `wav`, which is
+/// opened with the performance's name. The memory for blocks and for the opening is allocated before the sink
+/// is opened; memory for notes, graphs and larger desks is allocated when it is needed. Returns `Sink` if a
+/// call of the sink failed, and `OutOfMemory` if memory ran out. `tally` has room for 2^42 cycles and notes,
+/// and the samples of the piece have at most 2^31 bytes.
 pub fn perform<K: Sink, C: Counter, R: Threads + Wait + Sync, G: Gate + Sync>(
     performance: &Performance<'_>,
     crew: &Crew<'_, R, G>,
@@ -42,7 +43,7 @@ pub fn perform<K: Sink, C: Counter, R: Threads + Wait + Sync, G: Gate + Sync>(
     requires bytes { let s = performance.now.setup.now in
         s.plot.cycles * s.orchestra.head.ksmps * s.orchestra.head.nchnls
         * bytes_of performance.now.order.width ≤ most_wav_bytes }
-    // Bytes, taps and receipts are those of one number of cycles.
+    // Bytes, taps and receipts belong to one number of cycles.
     ensures { PerformsPiece (lent_sight (λ t h. stands_for t h) K.tells C.has_counted)
         (request_of performance.now) (lent wav.old taps.old.items tally.old) (lent wav.new taps.new.items tally.new)
         result }
@@ -53,8 +54,8 @@ pub fn perform<K: Sink, C: Counter, R: Threads + Wait + Sync, G: Gate + Sync>(
     played
 }
 
-/// Performs a piece as `perform` does, by the caller alone: no thread is started and nobody is waited for, so it
-/// returns. `gate` is called before each note.
+/// Performs a piece as `perform` does, but only with the caller: it starts no thread and waits for none, so
+/// it returns. `gate` is called before each note.
 pub fn perform_alone<K: Sink, C: Counter, G: Gate>(
     performance: &Performance<'_>,
     gate: &G,
@@ -80,7 +81,7 @@ pub fn perform_alone<K: Sink, C: Counter, G: Gate>(
     played
 }
 
-/// The performance from its opening on, and what comes out of it.
+/// Performs the piece from its opening on, and returns its outcome.
 pub(crate) fn go_on<K: Sink, C: Counter, S: Sounder>(
     performance: &Performance<'_>,
     sounder: S,
@@ -106,7 +107,7 @@ pub(crate) fn go_on<K: Sink, C: Counter, S: Sounder>(
     }
 }
 
-/// The performance from its opening on.
+// Performs the piece from its opening on.
 fn play<K: Sink, C: Counter, S: Sounder>(
     performance: &Performance<'_>,
     mut sounder: S,
@@ -139,7 +140,7 @@ fn play<K: Sink, C: Counter, S: Sounder>(
     }
 }
 
-/// All cycles.
+// Performs all cycles.
 fn play_all<K: Sink, C: Counter, S: Sounder>(
     performance: &Performance<'_>,
     sounder: &mut S,
@@ -180,7 +181,7 @@ fn play_all<K: Sink, C: Counter, S: Sounder>(
     Ok(())
 }
 
-/// The events at the very end are done, and the file is ended.
+// Does the events at the very end, and ends the file.
 fn close<K: Sink, S: Sounder>(
     performance: &Performance<'_>,
     sounder: S,

@@ -1,4 +1,4 @@
-// What is recorded of a performance.
+// The recording of a performance.
 ghost use Rattle.std.specs.Prelude.{◌≡◌, ◌*◌, ◌≤◌, [], IfOk};
 ghost use Rattle.cs_base.specs.{Limits.most_wav_bytes, Widths.bytes_of};
 ghost use Rattle.cs_perform.specs.{Performances.IsOutcomeOf, Performances.if_told, inner.Ends.AreStartsOf};
@@ -12,21 +12,21 @@ use crate::stand::Starts;
 use cs_base::{Bytes, Head, OutOfMemory, SampleWidth};
 use std::alloc::Global;
 
-/// The blocks of a cycle, and what is written down of all cycles so far.
+/// The blocks of a cycle, and what was recorded of all cycles so far.
 #[derive(Drop)]
 pub(crate) struct Recording {
     /// The mix of a cycle, frame by frame and channel by channel.
     pub mix: Vec<i64>,
-    /// The samples of a cycle.
+    /// The samples of a cycle, in bytes.
     pub samples: Vec<u8>,
-    /// The number of samples that had to be brought into range.
+    /// The number of samples that were clipped.
     pub out_of_range: u64,
-    /// The lines of turns, where they are told.
+    /// The lines of turns; empty if the report has none.
     pub turns: Vec<u8>,
 }
 
 impl Recording {
-    /// A recording of no cycle, with blocks for this head, and samples of this width.
+    /// Makes a recording of no cycle, with blocks for this head and samples of this width.
     pub fn new(alloc: Global, head: &Head, width: SampleWidth) -> Result<Recording, OutOfMemory>
         ensures blocks { IfOk result (HasBlocks head.now width) }
         ensures none { IfOk result (λ r. (r.out_of_range ≡ 0) × (r.turns.items ≡ [])) }
@@ -41,7 +41,7 @@ impl Recording {
         })
     }
 
-    /// What comes out of a performance beside the sound, where all its cycles were recorded.
+    /// Returns the outcome of a performance, all of whose cycles were recorded.
     pub fn outcome(self, performance: &Performance<'_>, starts: Starts) -> Outcome
         requires bytes { let s = performance.now.setup.now in
             s.plot.cycles * s.orchestra.head.ksmps * s.orchestra.head.nchnls

@@ -1,4 +1,4 @@
-// How large the sound file of a piece is.
+// The size of a piece's sound file.
 ghost use Rattle.std.specs.Prelude.{◌≡◌, ◌*◌, ◌≤◌, ◌++◌, length};
 ghost use Rattle.cs_base.specs.{Limits.most_wav_bytes, Widths.bytes_of, declared.width.SampleWidth.SampleWidth};
 ghost use Rattle.cs_piece_meaning.specs.Heard.{frames_of};
@@ -10,7 +10,7 @@ use cs_base::SampleWidth;
 use cs_piece::Setup;
 use cs_wav::header;
 
-/// The number of frames, where their samples fit a sound file in some width.
+/// Returns the number of frames, whose samples fit into a sound file in some width.
 pub(crate) fn frames_in(setup: &Setup) -> u32
     requires { (width : SampleWidth)
         × (setup.now.plot.cycles * setup.now.orchestra.head.ksmps * setup.now.orchestra.head.nchnls
@@ -20,7 +20,7 @@ pub(crate) fn frames_in(setup: &Setup) -> u32
     setup.plot().cycles * setup.head().ksmps
 }
 
-/// The header, where `frames` is the number of frames.
+/// Returns the header of a file with `frames` frames.
 pub(crate) fn first_bytes(setup: &Setup, width: SampleWidth, frames: u32) -> [u8; 44]
     requires bytes { setup.now.plot.cycles * setup.now.orchestra.head.ksmps * setup.now.orchestra.head.nchnls
         * bytes_of width ≤ most_wav_bytes }
@@ -31,7 +31,7 @@ pub(crate) fn first_bytes(setup: &Setup, width: SampleWidth, frames: u32) -> [u8
     header(width, frames, setup.head())
 }
 
-/// Whether the samples have an odd size.
+/// Returns whether the size of the samples in bytes is odd.
 pub(crate) fn ends_odd(setup: &Setup, width: SampleWidth, frames: u32) -> bool
     requires bytes { setup.now.plot.cycles * setup.now.orchestra.head.ksmps * setup.now.orchestra.head.nchnls
         * bytes_of width ≤ most_wav_bytes }

@@ -1,4 +1,4 @@
-// Who makes the sound of the cycles: what is kept from cycle to cycle, and who runs its notes.
+// Making the sound of the cycles: the state from cycle to cycle, and who runs its notes.
 ghost use Rattle.std.specs.Prelude.{◌≡◌, ◌+◌, ◌*◌, ◌≤◌, ◌<◌, length, IfOk, IsSomeAnd, OnOk};
 ghost use Rattle.cs_base.specs.Limits.{most_notes};
 ghost use Rattle.cs_life.specs.Standing.{kept_count};
@@ -16,13 +16,13 @@ use cs_pool::Pool;
 use std::alloc::Global;
 use std::sync::Wait;
 
-/// Makes the sound of the cycles, one after another. The rest of a performance is written over this trait, whose bounds
-/// name no lifetime: a function can't have such a bound and meters together.
+/// Makes the sound of the cycles, one after another. The rest of a performance is generic over this trait,
+/// whose bounds name no lifetime: a function can't have such a bound together with meters.
 pub(crate) trait Sounder: Drop {
-    /// Whether all that it keeps stands at a moment of a setup's performance.
+    /// Whether its state represents a moment of a setup's performance.
     ghost is_at: { SetupData → Self → Moment → Type 0 };
 
-    /// The notes of a cycle begin, and their line of turns is added, where it is told.
+    /// Begins the notes of a cycle, and appends their line of turns if the report has such lines.
     fn prepare(
         &mut self,
         performance: &Performance<'_>,
@@ -33,8 +33,8 @@ pub(crate) trait Sounder: Drop {
         ensures { OnOk result (BeginsNotes is_at performance.now cycle self.old self.new
             turns.old.items turns.new.items) };
 
-    /// The notes that have begun perform the cycle and leave, and `tally` counts it. What they give together is in the
-    /// block.
+    /// Performs the cycle with the notes that have begun; then notes that were turned off leave, and `tally`
+    /// counts the cycle. `block` becomes the sum of the notes.
     fn run<C: Counter>(&mut self, cycle: u32, tally: &mut C, block: &mut [i64])
         requires at { (s : SetupData) × (m : Moment) × is_at s self.old m
             × (length block.old ≡ s.orchestra.head.ksmps * s.orchestra.head.nchnls) }
@@ -42,7 +42,7 @@ pub(crate) trait Sounder: Drop {
         ensures runs { RunsNotes is_at C.has_counted self.old self.new tally.old tally.new block.new }
         ensures room { C.room tally.old ≤ C.room tally.new + (most_notes + 1) };
 
-    /// The events at the very end, in the cycle after the last, are done.
+    /// Does the events at the very end, in the cycle after the last one.
     fn close(self, alloc: Global, cycle: u32) -> Result<Starts, OutOfMemory>
         requires at { (s : SetupData) × (m : Moment) × is_at s self m }
         ensures starts { IfOk result (λ n. (s : SetupData) (m : Moment) → is_at s self m
@@ -50,7 +50,7 @@ pub(crate) trait Sounder: Drop {
             × (n.not_started ≡ kept_count (begins (composition_of s) cycle m).not_started)) };
 }
 
-/// The caller alone, who waits for nobody.
+/// The caller without a crew, who waits for no other thread.
 impl<'t, G: Gate> Sounder for Stand<'t, G> {
     ghost is_at = { λ s stand m. IsAt s stand m };
 
@@ -86,7 +86,7 @@ impl<'t, G: Gate> Sounder for Stand<'t, G> {
     }
 }
 
-/// A crew, and what is kept from cycle to cycle, which is out while the crew runs a cycle.
+/// A crew, and the state from cycle to cycle, which is out while the crew runs a cycle.
 #[derive(Drop)]
 pub(crate) struct Ensemble<'r, 'e, 't, R, G: Gate> {
     pub pool: &'r mut Pool<'e, NoteRow<'t, G>, R, OpenGate>,
@@ -127,8 +127,9 @@ impl<'r, 'e, 't, R: Wait, G: Gate> Sounder for Ensemble<'r, 'e, 't, R, G> {
 }
 
 impl<'r, 'e, 't, R: Wait, G: Gate> Ensemble<'r, 'e, 't, R, G> {
-    /// The crew runs the cycle, for which all is ready, and the notes leave. A function of its own, so that a cycle of
-    /// the caller alone doesn't pay for the frame in which what is kept goes out and comes back.
+    // Runs the cycle, for which everything is ready, with the crew; then notes that were turned off leave.
+    // It is a separate function, so that a cycle without the crew doesn't pay for the stack frame in which
+    // the state moves out and back.
     #[inline(never)]
     fn share<C: Counter>(&mut self, cycle: u32, tally: &mut C, block: &mut [i64])
         requires at { (s : SetupData) × (m : Moment) × IsSomeAnd self.old.stand (λ stand. IsAt s stand m)

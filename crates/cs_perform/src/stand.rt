@@ -1,11 +1,13 @@
-// All that is kept of a performance from cycle to cycle.
-ghost use Rattle.std.specs.Prelude.{◌≡◌, ◌+◌, ◌*◌, ◌≤◌, ◌<◌, ℕ, [], ◌∷◌, length, pos, replicate, true, All, IfOk, OnOk};
+// The state of a performance from cycle to cycle.
+ghost use Rattle.std.specs.Prelude.{◌≡◌, ◌+◌, ◌*◌, ◌≤◌, ◌<◌, ℕ, [], ◌∷◌, length, pos, replicate, true, false, All};
+ghost use Rattle.std.specs.Prelude.{IfOk, OnOk};
 ghost use Rattle.cs_base.specs.Limits.{most_notes};
 ghost use Rattle.cs_cells.specs.Areas.{word_count};
 ghost use Rattle.cs_piece_meaning.specs.Course.{begins, moment_at, opening, performed, turned_off};
 ghost use Rattle.cs_piece_meaning.specs.{Heard.mix_in, Moments.Moment};
 ghost use Rattle.cs_desk.specs.{Cycles.IsCycle, Cycles.WasPlayed, Desk.areas, Desk.cells};
 ghost use Rattle.cs_life.specs.Standing.{StandsFor};
+ghost use Rattle.cs_pool.specs.Pools.{ended, next_cycle};
 ghost use Rattle.cs_perform.specs.{Counted.CountsOn, inner.Stands.InRows, inner.Stands.IsAt, inner.Stands.IsReady};
 ghost use Rattle.cs_piece.specs.Setups.{SetupData, composition_of};
 ghost use Rattle.cs_row.specs.Heard.{sums};
@@ -16,7 +18,7 @@ use cs_base::OutOfMemory;
 use cs_cells::{Job, Layout};
 use cs_desk::{Course, Desk, Receipt, make_room};
 use cs_edge::{Gate, OpenGate};
-use cs_graph::Graph;
+use cs_graph::{Graph, is_one_chain};
 use cs_life::{Life, serial_runs_perform, voices_are_heard};
 use cs_piece::Setup;
 use cs_pool::Pool;
@@ -26,33 +28,33 @@ use std::alloc::Global;
 use std::mem;
 use std::sync::{Arc, Wait};
 
-/// The number of notes for which there is room at first.
+/// The number of notes for which a desk has room at first.
 const FIRST_NOTES: u32 = 16;
-/// The number of edges for which there is room at first.
+/// The number of edges for which a desk has room at first.
 const FIRST_EDGES: u32 = 32;
 
 /// Notes that run as one job.
 pub(crate) type NoteRow<'t, G> = Row<'t, Voice<'t>, G>;
 
-/// What is kept of a performance: its life, the notes that play, in the order of performing, the cells that they
-/// share, and the course of their cycle.
+/// The state of a performance: its life, the notes that play, in performing order, the cells that they share,
+/// and the course of their cycle.
 #[derive(Drop)]
 pub(crate) struct Stand<'t, G: Gate> {
     pub life: Life<'t>,
-    /// It is called before each note.
+    /// The gate that is called before each note.
     pub gate: &'t G,
     pub voices: Vec<Voice<'t>>,
     pub desk: Desk<NoteRow<'t, G>>,
-    /// That of the rows.
+    /// The course of the rows.
     pub course: Course,
     pub rows: Rows<'t, Voice<'t>, G>,
-    /// Whether no note has begun or left since the rows were cut and the course became theirs.
+    /// Whether no note has begun or left since the rows were cut and the course was built from them.
     pub current: bool,
-    /// That of the notes, where turns are told.
+    /// The course of the notes, if turns are asked for.
     pub turns: Course,
 }
 
-/// How many starts there were: those that started a note, and those that started nothing.
+/// The numbers of starts: those that started a note, and those that started nothing.
 #[derive(Clone, Copy)]
 pub(crate) struct Starts {
     pub started: u64,
@@ -60,7 +62,7 @@ pub(crate) struct Starts {
 }
 
 impl<'t, G: Gate> Stand<'t, G> {
-    /// At the opening of a performance.
+    /// Opens a performance.
     pub fn new(alloc: Global, setup: &'t Setup, gate: &'t G) -> Result<Stand<'t, G>, OutOfMemory>
         ensures { IfOk result (λ stand. IsAt setup.now stand (opening (composition_of setup.now))) }
     {
@@ -81,7 +83,7 @@ impl<'t, G: Gate> Stand<'t, G> {
         })
     }
 
-    /// The notes of a cycle begin.
+    /// Begins the notes of a cycle.
     pub fn begin(&mut self, alloc: Global, cycle: u32) -> Result<(), OutOfMemory>
         requires at { (s : SetupData) × (m : Moment) × IsAt s self.old m }
         ensures begun { OnOk result ((s : SetupData) (m : Moment) → IsAt s self.old m
@@ -98,7 +100,8 @@ impl<'t, G: Gate> Stand<'t, G> {
         Ok(())
     }
 
-    /// The notes are cut into rows for `workers` workers, and the course is that of the rows, unless they are so still.
+    /// Cuts the notes into rows for `workers` workers, and builds the course of the rows, unless both are
+    /// still current.
     fn cut_rows(&mut self, alloc: Global, workers: u32) -> Result<(), OutOfMemory>
         requires at { (s : SetupData) × (m : Moment) × IsAt s self.old m }
         requires workers { 1 ≤ workers }
@@ -116,7 +119,8 @@ impl<'t, G: Gate> Stand<'t, G> {
         Ok(())
     }
 
-    /// All is made ready for `workers` workers: the rows and their course, memory for these, and room for their cycle.
+    // Makes everything ready for `workers` workers: the rows and their course, memory for them, and room for
+    // their cycle.
     fn make_ready(&mut self, alloc: Global, workers: u32) -> Result<(), OutOfMemory>
         requires at { (s : SetupData) × (m : Moment) × IsAt s self.old m }
         requires workers { 1 ≤ workers }
@@ -129,9 +133,10 @@ impl<'t, G: Gate> Stand<'t, G> {
         make_room(alloc, self.life.zones(), &mut self.desk, rows, edges)
     }
 
-    /// Whether the crew is to run the cycle: where it is offered to it, the notes are several and there is memory for
-    /// their rows, and all is ready then. `block` is what they give together. Else the cycle is the caller's alone, and
-    /// the crew knows.
+    /// Returns whether the crew is to run the cycle: it is offered, several of its notes may run at the same
+    /// time, and there is memory to share it. If so, everything is ready, and the crew is unchanged.
+    /// Otherwise the caller runs the cycle without the crew, which has counted it. `block` has the length of
+    /// the notes' sum.
     pub fn is_shared<R: Wait>(
         &mut self,
         pool: &mut Pool<'_, NoteRow<'t, G>, R, OpenGate>,
@@ -140,24 +145,38 @@ impl<'t, G: Gate> Stand<'t, G> {
         requires at { (s : SetupData) × (m : Moment) × IsAt s self.old m }
         ensures at { (s : SetupData) (m : Moment) → IsAt s self.old m → IsAt s self.new m }
         ensures ready { result ≡ true → IsReady self.new }
+        ensures offered { result ≡ true → pool.new ≡ pool.old }
+        ensures told { result ≡ false → ended pool.new ≡ next_cycle (ended pool.old) }
     {
         let notes = self.voices.len();
         if notes < 2 || !pool.offers(notes.saturating_mul(block.len())) {
             pass(pool);
             return false;
         }
+        if self.is_one_chain() {
+            miss(pool);
+            return false;
+        }
         let alloc = *self.voices.allocator();
         match self.make_ready(alloc, pool.workers()) {
             Ok(()) => true,
             Err(OutOfMemory) => {
-                pass(pool);
+                miss(pool);
                 false
             }
         }
     }
 
-    /// The notes that play perform the cycle one by one, by the caller alone, and `tally` counts it by their receipt.
-    /// What they give together is in the block.
+    // Returns whether each note except the first waits for the one before it.
+    fn is_one_chain(&self) -> bool
+        requires { (s : SetupData) × (m : Moment) × IsAt s self.now m }
+    {
+        serial_runs_perform();
+        is_one_chain(&self.voices)
+    }
+
+    /// Runs the notes of the cycle one by one, without the crew, and `tally` counts the cycle by their
+    /// receipt. `block` becomes the sum of the notes.
     pub fn run_alone<C: Counter>(&mut self, cycle: u32, tally: &mut C, block: &mut [i64])
         requires at { (s : SetupData) × (m : Moment) × IsAt s self.old m }
         requires block { length block.old ≡ self.old.rows.block }
@@ -180,7 +199,8 @@ impl<'t, G: Gate> Stand<'t, G> {
         sum_notes(&self.voices, block);
     }
 
-    /// The same in rows, by the crew.
+    /// Runs the notes of the cycle in rows, with the crew, and `tally` counts the cycle by their receipt.
+    /// `block` becomes the sum of the notes.
     pub fn run_shared<R: Wait, C: Counter>(
         self,
         pool: &mut Pool<'_, NoteRow<'t, G>, R, OpenGate>,
@@ -217,7 +237,7 @@ impl<'t, G: Gate> Stand<'t, G> {
         stand
     }
 
-    /// The notes that were turned off leave.
+    /// Removes the notes that were turned off.
     pub fn end(&mut self)
         requires at { (s : SetupData) × (m : Moment) × IsAt s self.old m }
         ensures ended { (s : SetupData) (m : Moment) → IsAt s self.old m → IsAt s self.new (turned_off m) }
@@ -229,12 +249,21 @@ impl<'t, G: Gate> Stand<'t, G> {
     }
 }
 
-/// One cycle more is the caller's alone. A performance needs to know nothing of what the crew makes of it.
-fn pass<J: Job + Drop, R: Wait, G: Gate>(pool: &mut Pool<'_, J, R, G>) {
+// Reports to the crew that the caller ran one more cycle without it. A performance relies only on the count.
+fn pass<J: Job + Drop, R: Wait, G: Gate>(pool: &mut Pool<'_, J, R, G>)
+    ensures { ended pool.new ≡ next_cycle (ended pool.old) }
+{
     pool.pass();
 }
 
-/// The crew runs the jobs of a cycle: `Pool::cycle`, as far as a performance has to know of it.
+// Reports to the crew that the caller ran a cycle without it that was offered.
+fn miss<J: Job + Drop, R: Wait, G: Gate>(pool: &mut Pool<'_, J, R, G>)
+    ensures { ended pool.new ≡ next_cycle (ended pool.old) }
+{
+    pool.miss();
+}
+
+// Runs the jobs of a cycle with the crew: `Pool::cycle`, as far as a performance relies on its contract.
 fn by_crew<J: Job + Drop, R: Wait, G: Gate>(
     pool: &mut Pool<'_, J, R, G>,
     cycle: u32,
@@ -249,14 +278,14 @@ fn by_crew<J: Job + Drop, R: Wait, G: Gate>(
     pool.cycle(cycle, graph, desk, jobs)
 }
 
-/// Whether what was so is so again.
+/// Returns whether something that was true before is still true.
 fn is_still_so(before: bool, now: bool) -> bool
     ensures { result ≡ true → (before ≡ true) × (now ≡ true) }
 {
     before && now
 }
 
-/// Writes what notes of one shape give together into the block.
+/// Writes the sum of notes of one shape into the block.
 fn sum_notes(voices: &[Voice<'_>], block: &mut [i64])
     requires few { length voices.now ≤ most_notes }
     requires long { (frames : ℕ) × (channels : ℕ) × All (λ (v : VoiceData). shape v ≡ (frames, channels)) voices.now
@@ -270,7 +299,7 @@ fn sum_notes(voices: &[Voice<'_>], block: &mut [i64])
     Voice::sum(voices, block);
 }
 
-/// The opening of a performance: its life, over the cells of a desk, whatever that runs.
+/// Opens a performance: makes its life on the cells of a desk for any kind of job.
 fn open_desk<'t, J: Job + Drop>(
     alloc: Global,
     setup: &'t Setup,
@@ -287,7 +316,7 @@ fn open_desk<'t, J: Job + Drop>(
     Ok((life, desk))
 }
 
-/// The notes of a cycle begin over the cells of a desk. Returns whether the same notes play as before.
+/// Begins the notes of a cycle on the cells of a desk. Returns whether the same notes play as before.
 fn begin_notes<'t, J: Job>(
     life: &mut Life<'t>,
     alloc: Global,
@@ -309,7 +338,7 @@ fn begin_notes<'t, J: Job>(
     life.begin_cycle(alloc, cycle, voices, desk)
 }
 
-/// A desk whose cells are all 0.
+/// Returns a desk whose cells are all 0.
 fn first_desk<J: Job>(alloc: Global, layout: &Layout) -> Result<Desk<J>, OutOfMemory>
     ensures areas { IfOk result (λ d. areas d ≡ layout.now) }
     ensures cells { IfOk result (λ d. cells d ≡ replicate (word_count layout.now) (pos 0)) }

@@ -1,10 +1,10 @@
-// The mix is told to the taps.
+// Passing the mix to the taps.
 ghost use Rattle.std.specs.Prelude.{ℤ, List, ◌++◌};
 ghost use Rattle.cs_perform.specs.Hearing.{Told};
 
 use cs_edge::Tap;
 
-/// Tells each tap the next values of the mix.
+/// Passes the next values of the mix to each tap.
 pub(crate) fn tell(taps: &mut Vec<Box<dyn Tap>>, frames: &[i64])
     ensures { Told (λ t h. stands_for t h) taps.old.items taps.new.items frames.now }
 {

@@ -1,4 +1,4 @@
-// The line that tells in which turn each note of a cycle comes.
+// The line that reports the turn of each note of a cycle.
 ghost use Rattle.std.specs.Prelude.{◌≡◌, ◌++◌, OnOk};
 ghost use Rattle.cs_piece_meaning.specs.Moments.{Moment};
 ghost use Rattle.cs_perform.specs.inner.Stands.{IsAt};
@@ -10,10 +10,10 @@ use cs_base::OutOfMemory;
 use cs_desk::feet_of;
 use cs_edge::Gate;
 use cs_piece::Setup;
-use cs_turns::{add_turns, layouts_have_the_stock, turns_are_levels};
+use cs_turns::{add_turns, has_line, layouts_have_the_stock, turns_are_levels};
 use std::alloc::Global;
 
-/// Adds the line of a cycle whose notes have begun.
+/// Appends the line that lists the turns of a cycle whose notes have begun, or does nothing if the cycle has no line.
 pub(crate) fn tell_turns<G: Gate>(
     alloc: Global,
     setup: &Setup,
@@ -26,6 +26,9 @@ pub(crate) fn tell_turns<G: Gate>(
     ensures told { OnOk result ((m : Moment) → IsAt setup.now stand.old m
         → turns.new.items ≡ turns.old.items ++ line_of cycle (turns_in (composition_of setup.now) m.active)) }
 {
+    if !has_line(cycle) {
+        return Ok(());
+    }
     setup.facts();
     layouts_have_the_stock();
     turns_are_levels();

@@ -1,4 +1,4 @@
-// The bytes of the sound file, where it is written.
+// The bytes of the sound file, if it is written.
 ghost use Rattle.std.specs.Prelude.{◌≡◌, ℕ, List, ◌++◌, OnOk, OnErr};
 ghost use Rattle.cs_edge.specs.{Told.HasCause, Moves.WroteMore, Moves.WrotePart, Moves.Wrote, Moves.Stopped};
 ghost use Rattle.cs_perform.specs.{Hearing.IfWritten, declared.order.Output.TheVariants.SoundFile};
@@ -7,7 +7,7 @@ ghost use Rattle.cs_perform.specs.inner.Ends.{Finishes, Stops, padding};
 use crate::order::Output;
 use cs_edge::{Failed, Sink, write_all};
 
-/// Begins the sink and writes the file's first bytes, where it is written.
+/// Opens the sink and writes the file's first bytes, if it is written.
 pub(crate) fn begin<K: Sink>(
     output: Output,
     wav: &mut K,
@@ -38,7 +38,7 @@ fn begin_file<K: Sink>(wav: &mut K, name: &str, first: &[u8]) -> Result<(), Fail
     write_all(wav, first)
 }
 
-/// Writes more bytes, where the sink is written.
+/// Writes more bytes, if the sink is written.
 pub(crate) fn put<K: Sink>(output: Output, wav: &mut K, bytes: &[u8]) -> Result<(), Failed>
     ensures written { OnOk result (IfWritten K.tells output wav.old wav.new (λ b n. WroteMore b n bytes.now)) }
     ensures part { OnErr result (IfWritten K.tells output wav.old wav.new (λ b n. WrotePart b n bytes.now)) }
@@ -51,7 +51,7 @@ pub(crate) fn put<K: Sink>(output: Output, wav: &mut K, bytes: &[u8]) -> Result<
     }
 }
 
-/// Writes the byte 0 behind samples of odd size, and ends the sink, where it is written.
+/// Writes the byte 0 after samples of odd size, and ends the sink, if it is written.
 pub(crate) fn finish<K: Sink>(output: Output, odd: bool, wav: &mut K) -> Result<(), Failed>
     ensures finished { OnOk result (IfWritten K.tells output wav.old wav.new (Finishes (padding odd))) }
     ensures stopped { OnErr result (IfWritten K.tells output wav.old wav.new (Stops (padding odd))) }

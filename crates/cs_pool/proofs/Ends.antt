@@ -1,4 +1,4 @@
--- Which of the views of a mailbox an end has, and what the rule says of the mailbox then.
+-- Which of the views of a mailbox an end has, and the state that the rule allows then.
 use Rattle.std.proofs.Common.{arith, ◌≡◌, ◌⊎◌, ℕ, zero, suc, inl, inr, [], ◌∷◌, refl, sym, ap, ◌∙◌}
 use Rattle.std.proofs.lemmas.Grind.{common_steps}
 use mathlib.Core.Option.{some, none, some-injective, some-ne-none}
@@ -35,7 +35,7 @@ module _ {J : Type 0} (M : Meaning J) (s : State (MailboxLetter J) (Knows J)) (i
     pub views : s.views ≡ v ∷ other ∷ []
     pub facts : Facts M word home v other
 
-  -- and this is the helper's
+  -- the mailbox has its two ends, and this is the helper's
   pub record OfHelper : Type 0 where
     pub word : ℕ
     pub home : maybe.Option (MailboxLetter J)
@@ -55,7 +55,7 @@ module _ {J : Type 0} (M : Meaning J) (s : State (MailboxLetter J) (Knows J)) (i
       → r ≡ v.role
   begun_role b here = ap (λ z. z.role) (of_begun b here).1
 
-  -- an end of one that has both
+  -- an end of a mailbox that has both
   side_of : IsShared M s → get_elem? s.views id ≡ some v → OfCaller ⊎ OfHelper
   side_of h here = grind (arith, common_steps, two_of)
 

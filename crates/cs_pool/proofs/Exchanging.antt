@@ -1,4 +1,4 @@
--- Each kind of step on a mailbox keeps its rule, and tells what it promises.
+-- Each kind of step on a mailbox preserves its rule, and lets the end that makes it know what it promises.
 use Rattle.std.proofs.lemmas.{Grind.common_steps, Bool.cases_eq, List.set-get_or}
 use Rattle.atomic_table.proofs.Lists.{set_again}
 use Rattle.std.proofs.Common.{◌≡◌, ◌≢◌, ◌⊎◌, ℕ, inl, inr, ⊎_elim, List, [], ◌∷◌, Option, Some, None, refl, sym, ap, ◌∙◌}
@@ -35,7 +35,7 @@ module _ {J : Type 0} (M : Meaning J) where
   still_free None w w' c c' n n' d = n'
   still_free (Some e) w w' c c' n n' d = absurd (n d.0)
 
-  -- of what is out, at GIVEN the task lies in the slot, and at BACK the answer
+  -- for what is out: at GIVEN the task is in the slot, at BACK the answer
   given_abroad : (w : ℕ) (h : maybe.Option (MailboxLetter J)) (e : Errand J) → w ≡ GIVEN → IsAbroad M w h e
       → IsGiven M w h e
   given_abroad w h e is =
@@ -46,7 +46,7 @@ module _ {J : Type 0} (M : Meaning J) where
   back_abroad w h e is =
       ⊎_elim (λ g. absurd (omega (arith, is, g.word))) (⊎_elim (λ t. absurd (omega (arith, is, t.word))) (λ b. b))
 
-  -- at GIVEN there is something out, which lies in the slot
+  -- at GIVEN something is out, and it is in the slot
   given_out : (o : Option (Errand J)) (w : ℕ) (h : maybe.Option (MailboxLetter J)) → w ≡ GIVEN
       → MatchOption o (IsHome M w h) (IsAbroad M w h) → (e : Errand J) × (o ≡ Some e) × IsGiven M w h e
   given_out None w h is m = absurd (⊎_elim (λ z. omega (arith, z, is)) (λ z. omega (arith, z, is)) m.word)
@@ -64,7 +64,7 @@ module _ {J : Type 0} (M : Meaning J) where
         → Always M (record { words = ws; homes = hs; views = slice_set s.views id v' })
     helper_stepped v c ws hs w h v' words homes facts = grind (arith, common_steps)
 
-  -- the first end takes the slot along
+  -- the first end takes the content of the slot
   pub fetches : (n id : ℕ)
       → Allows (Always M) n id (beginning Maker, []) 0 (λ y. y) (fetched (step n 0 0 0 none) (beginning Maker, []))
   fetches n id s a long here fits =
@@ -181,8 +181,8 @@ module _ {J : Type 0} (M : Meaning J) where
   is_home : (w : ℕ) → (w ≡ EMPTY) ⊎ (w ≡ OVER) → IsHome M w none
   is_home w is = record { word = is; home = refl }
 
-  -- Where the caller finds the word that it looks for, it takes what lies in the slot, and nothing is out any more;
-  -- else nothing changes.
+  -- If the caller finds the word that it looks for, it takes the content of the slot, and nothing is out any
+  -- more; otherwise nothing changes.
   takes_back : (n id : ℕ) (k k' : Tasks) (old : ℕ) (e : Errand J) (told : ℕ → Sat J → Type 0) → old ≢ TAKEN
       → ((w : ℕ) (h : maybe.Option (MailboxLetter J)) → w ≡ old → IsAbroad M w h e
       → (l : MailboxLetter J) × (h ≡ some l) × told w (caller k' None, (0, l) ∷ []))
@@ -242,7 +242,7 @@ module _ {J : Type 0} (M : Meaning J) where
       ))
       (λ w miss. ((λ y. absurd (miss y)), (λ y. refl)))
 
-  -- there is no further task
+  -- there will be no further task
   pub ends : (n id : ℕ) (k : Tasks) (l : List (ℕ × MailboxLetter J))
       → Allows (Always M) n id (caller k None, l) 0 (λ _. OVER)
       (λ _. closed (step n 0 OVER 0 none) (caller k None, l) OVER)
@@ -262,11 +262,11 @@ module _ {J : Type 0} (M : Meaning J) where
         refl,
       )
 
-  -- a mailbox that was just made
+  -- a new mailbox
   pub opens : Always M (opening (EMPTY ∷ []) (letter.Nothing ∷ []) (beginning Maker))
   opens = inl (record { words = refl; homes = refl; views = refl })
 
--- a seat that comes back as it was given
+-- a seat that comes back the way it was given
 pub untouched : {J : Type 0} (M : Meaning J) (e : Errand J) (r : BoardSeat J) → r ≡ e.seat → IsDone M e.board e.seat
     → IsThrough M e.board e.seat r
 untouched M e r is done = grind (arith, common_steps)
@@ -276,12 +276,12 @@ module _ {J : Type 0} where
   letter_in [] = letter.Nothing
   letter_in (x ∷ xs) = x.1
 
-  -- an end that has the slot may write into it
+  -- an end that has taken the slot may write into it
   pub has_slot : (m : Sat J) (v : Knows J) (x : MailboxLetter J) → m ≡ (v, (0, x) ∷ [])
       → (y : MailboxLetter J) × (m.1 ≡ (0, y) ∷ rest m.1)
   has_slot m v x e = (x, ap (λ z. z.1) e ∙ ap (λ l. (0, x) ∷ l) (sym (ap (λ z. rest z.1) e)))
 
-  -- what it finds there, and what it knows after it
+  -- the content that it finds in the slot, and what it knows after that
   pub found : (m : Sat J) (v : Knows J) (x y : MailboxLetter J) → m ≡ (v, (0, x) ∷ []) → m.1 ≡ (0, y) ∷ rest m.1 → y ≡ x
   found m v x y e z = ap letter_in (sym z) ∙ ap (λ q. letter_in q.1) e
 

@@ -1,4 +1,4 @@
--- What the caller knows of a helper after it has looked for what was out, and has looked again.
+-- What the caller knows about a helper after it has looked for what was out, and has looked again.
 use Rattle.std.proofs.Common.{arith, ◌≡◌, ◌+◌, Option, Some, None, IfSome, IfNone, ap, ◌∙◌}
 use Rattle.std.proofs.lemmas.Grind.{common_steps}
 use Rattle.std.specs.Int.{from_bool}
@@ -16,18 +16,18 @@ at_some None f p = p
 at_some (Some x) f p = f x p
 
 module _ {J : Type 0} {M : Meaning J} where
-  -- an end that is as it was has found nothing
+  -- an end that didn't change has found nothing
   pub found_nothing : {box : Mailbox J} {end end' : CallerEnd J} → end'.seat.table_id ≡ end.seat.table_id
       → end'.seat.me ≡ end.seat.me → LooksFor M box box end end' None
   found_nothing table me = grind (arith, common_steps)
 
-  -- where nothing was found, what was out is out
+  -- if nothing was found, what was out is still out
   pub still_out : {a b : Mailbox J} {end end' : CallerEnd J} {found : Option (Returned J)}
       → LooksFor M a b end end' found → HasSomethingOut a end → IfNone found (HasSomethingOut b end')
   still_out {found} l h =
       at_none found (λ out. record { board = h.board; seat = h.seat; out = out }) (l.none h.board h.seat h.out)
 
-  -- two looks, of which the first found nothing
+  -- two looks, the first of which found nothing
   pub looked_again : {a b d : Mailbox J} {end mid end' : CallerEnd J} {found : Option (Returned J)}
       → LooksFor M a b end mid None → LooksFor M b d mid end' found → LooksFor M a d end end' found
   looked_again {found} l m = record {

@@ -1,4 +1,4 @@
--- What a cycle that was offered tells of the next ones.
+-- What a cycle that was offered shows about the next ones.
 use Rattle.std.proofs.lemmas.Grind.{common_steps}
 use Rattle.std.proofs.Common.{◌≡◌, ℕ, ◌+◌, ◌*◌, ◌<◌, Bool, true, false, arith}
 use Rattle.std.specs.{Prelude.min}
@@ -6,7 +6,7 @@ use Rattle.std.proofs.Math.Nat.{pow-succ'}
 use Rattle.cs_pool.specs.Alone.{most_alone, alone_after}
 use Rattle.cs_pool.specs.{Pools.Learns, Pools.tasks_served, declared.pool.Pool.Pool}
 
--- twice as many, and 128 at most, are as many as after one miss more
+-- twice as many cycles, at most 128, are as many as after one more miss
 twice_more : (x k : ℕ) → x ≡ alone_after k → min (2 * x) most_alone ≡ alone_after (k + 1)
 twice_more x k is = grind (arith, common_steps, pow-succ')
 

@@ -1,4 +1,4 @@
--- The numbers below another.
+-- The numbers below another number.
 use Rattle.std.proofs.lemmas.{Grind.common_steps, Bool.eq-eqb, Bool.ne_eqb}
 use Rattle.std.proofs.Common.{◌≡◌, ℕ, zero, suc, ◌≤◌, ◌∷◌, cond, refl, ap, ◌∙◌, arith}
 use Rattle.cs_pool.specs.Numbered.{down}

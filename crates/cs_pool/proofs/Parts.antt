@@ -1,4 +1,4 @@
--- Parts are given to helpers one after another, and are taken in again, the last first.
+-- Parts are given to helpers one after another, and are taken back, the last one first.
 use Rattle.std.proofs.lemmas.{Bool.cases_eq, List.get_or-set_other, List.get_or-set_same, List.length-set}
 use Rattle.std.proofs.Common.{◌≡◌, ◌∙◌, ℕ, zero, suc, ◌+◌, ◌<◌, ◌≤◌, ◌||◌, Bool, true, false, List, [], ◌∷◌, length}
 use Rattle.std.proofs.Common.{set, get_or, ⊎_elim, ap, sym, subst, refl, arith}
@@ -10,7 +10,7 @@ use Rattle.cs_pool.specs.{Mailboxes.given, Mailboxes.served, Numbered.IsFirst, P
 use Rattle.cs_pool.specs.{declared.line.Line.Line, inner.Lines.IsAway, inner.Lines.IsIdle, inner.Lines.Lends}
 use Rattle.cs_pool.specs.inner.Parts.{AreLent, AreOut}
 
--- item i of a list becomes y
+-- element i of a list becomes y
 pub total_moved : {A : Type 0} (f : A → ℕ) (xs : List A) (i : ℕ) (y d : A) → i < length xs
     → total f (set xs i y) + f (get_or xs i d) ≡ total f xs + f y
 total_moved f [] i y d low = absurd (omega (arith, low))
@@ -20,8 +20,7 @@ total_moved f (x ∷ xs) (suc i) y d low =
     total_moved f xs i y d (omega (arith, low)) in omega (arith, h)
 
 module _ {J : Type 0} (board : Board J) (from : ℕ) where
-  -- Helper i, one of the first n or the next one, becomes y: so the first m have a seat, this one too where it is one
-  -- of them, and else it has nothing.
+  -- Helper i, one of the first n or the next one, becomes y; after that the first m helpers have a seat.
   pub changed : (n m parts more i : ℕ) (before now : List (Line J)) (y d : Line J) → i < length now → i ≤ n
       → n ≤ i + 1 → i ≤ m → (i < m → IsAway board y (from + i)) → (m ≤ i → IsIdle y) → m ≤ i + 1
       → given y.end + parts ≡ given (get_or now i d).end + more → AreOut board from n parts before now
@@ -45,7 +44,7 @@ module _ {J : Type 0} (board : Board J) (from : ℕ) where
       }
 
 module _ {J : Type 0} (M : Meaning J) (board : Board J) where
-  -- the next helper becomes y, which was given so many parts, one or none
+  -- the next helper becomes y, which was given one part or none
   pub one_lent : (n parts m : ℕ) (before now : List (Line J)) (y d : Line J) (first mid last : BoardSeat J)
       → n < length now → m ≡ n + parts → Lends M board parts (get_or now n d) y mid last
       → AreLent M board n before now first mid → AreLent M board m before (set now n y) first last
@@ -60,7 +59,8 @@ module _ {J : Type 0} (M : Meaning J) (board : Board J) where
         served = omega (arith, moved, l.served, h.served);
       }
 
-  -- the seats of all helpers but the first n have come back, of `parts` that were given one; `any` of them had begun
+  -- the seats of all helpers except the first n have come back, of `parts` that were given one; `any` says
+  -- whether one of them had begun
   pub record AreTakenIn (from n parts : ℕ) (before now : List (Line J)) (first : BoardSeat J) (any : Bool)
       : Type 0 where
     pub out : AreOut board from n parts before now
@@ -70,7 +70,8 @@ module _ {J : Type 0} (M : Meaning J) (board : Board J) where
     pub begun : any ≡ true → served_by before < served_by now
     pub missed : any ≡ false → served_by now ≡ served_by before
 
--- the helpers served p tasks at first and q so far, and r after one of them was asked for its seat, which had served t
+-- the helpers had served p tasks at first and q so far, and r after one of them, which had served t, was
+-- asked for its seat
 pub more_served : (a b : Bool) (p q r t t' : ℕ) → r + t ≡ q + t' → t' ≡ t + from_bool b → (a ≡ true → p < q)
     → (a ≡ false → q ≡ p) → (a || b) ≡ true → p < r
 more_served true true p q r t t' sum one more same is = let o : t' ≡ t + 1 = one in omega (arith, sum, o, more refl)

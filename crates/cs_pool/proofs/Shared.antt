@@ -1,5 +1,5 @@
--- A mailbox may be shared by the caller and its helper, and the helper's end may go to the helper's thread, where a job
--- may cross to another.
+-- A mailbox may be shared by the caller and its helper, and the helper's end may move to the helper's thread,
+-- if a job may move to another thread.
 use denote.Enum.Declared as choice
 use denote.Enum.Enum.{Enum}
 use denote.Param.Send.{IsSend, IsSync, sendable, recorded_send, recorded_sync, struct_send, struct_sync, enum_send}

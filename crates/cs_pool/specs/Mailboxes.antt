@@ -1,6 +1,6 @@
--- What the calls of a mailbox promise of its two ends. Nobody else has an end of it, so what is out is known at every
--- moment: the caller can't hand out a seat of a cycle before again, nor begin a cycle while a helper still has its
--- share of the last.
+-- What the calls of a mailbox promise about its two ends. No other thread has an end of it, so what is out is
+-- known at every moment: the caller can't give out a seat of an earlier cycle, nor begin a cycle while a
+-- helper still has its share of the last one.
 use Rattle.std.specs.Prelude.{◌≡◌, ◌+◌, ℕ, [], ◌∷◌, Option, Some, None, IfSome, IfNone}
 use Rattle.std.specs.Int.{from_bool}
 use Rattle.cs_board.specs.{declared.board.Board.Board, declared.board.BoardSeat.BoardSeat}
@@ -15,14 +15,16 @@ module _ {J : Type 0} where
   abbrev pub tasks : CallerEnd J → Tasks
   tasks end = end.seat.me.0.tasks
 
-  -- how many it was given, and how many of them it has begun and given back; one that was taken back isn't served
+  -- how many tasks the helper was given
   abbrev pub given : CallerEnd J → ℕ
   given end = (tasks end).given
 
+  -- how many tasks the helper has begun and given back
   abbrev pub served : CallerEnd J → ℕ
   served end = (tasks end).served
 
-  -- the caller's end of this mailbox: nothing is out, and it has the slot, so that it can give at once
+  -- the caller's end of this mailbox: nothing is out, and it has the slot, so that it can give a task
+  -- immediately
   pub record HasNothingOut (box : Mailbox J) (end : CallerEnd J) : Type 0 where
     pub table : end.seat.table_id ≡ box.table.shared.table_id
     pub me : end.seat.me ≡ (caller (tasks end) None, (0, Nothing) ∷ [])
@@ -38,23 +40,24 @@ module _ {J : Type 0} where
     pub seat : BoardSeat J
     pub out : HasOut box end board seat
 
-  -- the helper's end of this mailbox: it is free
+  -- the helper's end of this mailbox: the helper is free
   pub record IsFree (box : Mailbox J) (end : HelperEnd J) : Type 0 where
     pub table : end.seat.table_id ≡ box.table.shared.table_id
     pub me : end.seat.me ≡ (helper None, [])
 
-  -- the helper's end of this mailbox: it is on duty with this seat of this board, and has the slot for its answer
+  -- the helper's end of this mailbox: the helper works at this seat of this board, and has the slot for its
+  -- answer
   pub record IsOnDuty (box : Mailbox J) (end : HelperEnd J) (board : Board J) (seat : BoardSeat J) : Type 0 where
     pub table : end.seat.table_id ≡ box.table.shared.table_id
     pub me : end.seat.me ≡ (helper (Some (errand board seat)), (0, Nothing) ∷ [])
 
 module _ {J : Type 0} (M : Meaning J) where
-  -- The caller looked for what was out, by this end of this mailbox, which are these afterwards: the seat is its own
-  -- again, after the helper's work or as it was handed out, or it is still out.
+  -- The caller looked for what was out; the mailbox and its end are box' and end' afterwards. The seat
+  -- belongs to the caller again, after the helper's work or as it was given, or it is still out.
   pub record LooksFor (box box' : Mailbox J) (end end' : CallerEnd J) (found : Option (Returned J)) : Type 0 where
     pub some : (b : Board J) (s : BoardSeat J) → HasOut box end b s → IfSome found (λ r. IsThrough M b s r.seat)
     pub home : IfSome found (λ _. HasNothingOut box' end')
     pub none : (b : Board J) (s : BoardSeat J) → HasOut box end b s → IfNone found (HasOut box' end' b s)
-    -- one task more was served where the helper had begun it, and none was given
+    -- one more task was served if the helper had begun it, and none was given
     pub counted : IfSome found (λ r. (served end' ≡ served end + from_bool r.begun) × (given end' ≡ given end))
     pub same : IfNone found (tasks end' ≡ tasks end)

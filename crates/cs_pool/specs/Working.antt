@@ -10,7 +10,7 @@ module _ {J : Type 0} (M : Meaning J) where
     pub of : IsSeatOf M (plan board) (name board) seat
     pub idle : IsIdle (view seat)
 
-  -- a seat that found no more note to claim: it owes none either
+  -- a seat that found no more note to claim, and owes no try
   pub record IsDone (board : Board J) (seat : BoardSeat J) : Type 0 where
     pub of : IsSeatOf M (plan board) (name board) seat
     pub idle : IsIdle (view seat)

@@ -8,8 +8,8 @@ ghost use Rattle.cs_pool.specs.inner.{Lines.IsIdle, Lines.IsAway, Lines.Lends, P
 ghost use Rattle.cs_pool.specs.Mailboxes.{given, served};
 ghost use Rattle.cs_graph.specs.Cover.{HasCover};
 ghost use Rattle.cs_pool.specs.Alone.{few_values};
-ghost use Rattle.cs_pool.specs.Pools.{helpers, ended, next_cycle, cycles_alone, tasks_served, served_by, tasks_given};
-ghost use Rattle.cs_pool.specs.Pools.{given_to, GivesParts, IsShared, HasMissed, Learns, LearnsNothing, NeedsNoHelper};
+ghost use Rattle.cs_pool.specs.Pools.{helpers, ended, next_cycle, cycles_alone, has_shared, tasks_served, served_by};
+ghost use Rattle.cs_pool.specs.Pools.{tasks_given, given_to, GivesParts, IsShared, HasMissed, Learns};
 
 use crate::letter::Task;
 use crate::line::Line;
@@ -25,40 +25,41 @@ use std::alloc::Global;
 use std::sync::{Arc, Wait};
 use std::thread;
 
-/// How long the caller looks for a note where it finds none to claim and notes wait, before it asks for the seats that
-/// are out.
+/// How long the caller looks for a note if it finds none to claim and notes wait, before it asks for the
+/// seats that are out.
 const PATIENCE: Patience = Patience {
     looks: 1_000,
     brisk: 100,
 };
 
-/// How often a helper that finds a task looks at least whether it still lies there before it takes it,
-/// some tens of microseconds together. A cycle that the caller has played by then is not shared at all:
-/// notes and cells that wander between processors would cost more than such a cycle takes.
+/// The lowest number of times that a helper which finds a task looks whether the task is still there before
+/// it takes it; a few tens of microseconds in total. If the caller has played the cycle by then, it isn't
+/// shared at all: moving notes and cells between processors would cost more than such a cycle takes.
 const HESITATION: u32 = 32_000;
 
-/// How often it looks for each note of the cycle, some 0.9 microseconds together: what sharing costs goes by the note.
+/// The number of looks for each note of the cycle, about 0.9 microseconds in total: the cost of sharing is
+/// proportional to the number of notes.
 const LOOKS_A_NOTE: u32 = 800;
 
-/// How often for each edge, some 3.5 microseconds together: who waits for a note finds its words and the cells that it
-/// wrote at another processor.
+/// The number of looks for each edge, about 3.5 microseconds in total: a note that waits for another finds
+/// its words, and the cells that it wrote, in the cache of another processor.
 const LOOKS_AN_EDGE: u32 = 3_200;
 
-/// A cycle whose notes make fewer values than this, one for each note, channel and frame, is the caller's alone: 16
-/// light voices in stereo by cycles of 10 frames, a cycle that no helper is in time for.
+// The number of values, one for each note, channel and frame, below which the caller runs a cycle without
+// helpers once a cycle was shared. For example, no helper comes in time for a cycle of 16 light stereo voices
+// and 10 frames.
 const FEW_VALUES: usize = 512;
 
 impl<'e, J: Job + Drop, R: Wait, G: Gate> Pool<'e, J, R, G> {
-    /// Runs the notes of one control cycle, and returns a receipt with their jobs, the desk, and
-    /// the graph, as if the notes had run one by one in serial order over the desk's cells.
+    /// Runs the notes of one control cycle, and returns a receipt with their jobs, the desk, and the graph,
+    /// as if the notes had run one by one in serial order on the desk's cells.
     ///
-    /// `graph` is that of the jobs, which stand in serial order; it serves as many cycles as the
-    /// same notes are active. The desk's layout is that of each job, and it has room for the cycle.
-    /// As many helpers get a part as can have a note at once beside the caller, who works too, or all
-    /// helpers, and where none is to get one the caller runs the notes without a board.
-    /// The gate is called with `cycle` and the note's place before each note is run. It can't fail:
-    /// where there is no memory for the parts of further helpers, those with a part and the caller
-    /// run all notes.
+    /// `graph` is the graph of the jobs, which are in serial order. It can be reused for each cycle until the
+    /// set of active notes changes. Each job has the desk's layout, and the desk has room for the cycle. The
+    /// caller works too, so as many helpers get a part as further notes can run at the same time, or all
+    /// helpers; if none is to get one the caller runs the notes without a board. The gate is called with
+    /// `cycle` and the note's index before each note is run. The call can't fail: if there is no memory for
+    /// the parts of further helpers, the caller and the helpers with a part run all notes.
     pub fn cycle(
         &mut self,
         cycle: u32,
@@ -72,50 +73,68 @@ impl<'e, J: Job + Drop, R: Wait, G: Gate> Pool<'e, J, R, G> {
         ensures ended { ended self.new ≡ next_cycle (ended self.old) }
         ensures helpers { helpers self.new ≡ helpers self.old }
         ensures shared { IsShared graph.value.edges (length graph.value.levels) self.old self.new }
-        // What it tells of the cycles that are to be offered next.
-        ensures learned { Learns self.old self.new
-            ⊎ (NeedsNoHelper (helpers self.old) graph.value.edges (length graph.value.levels)
-            × LearnsNothing self.old self.new) }
+        // Which of the next cycles are offered.
+        ensures learned { Learns self.old self.new }
     {
         let others = self.wanted(&graph);
         serial_laws::<J>();
         self.ended = self.ended.saturating_add(1);
         if others == 0 {
             self.starved = false;
+            self.sparing.learn(false);
             let mut desk = desk;
             let receipt = desk.run_alone(cycle, graph.len(), jobs, self.gate);
             return (receipt, desk, graph);
         }
+        self.has_shared = true;
         let hesitation = hesitation_of(&graph);
         let (board, first) = desk.open(graph, jobs);
         let (board, first) = self.play(board, first, others, cycle, hesitation);
         Desk::rest(board, first)
     }
 
-    /// Whether the next cycle is offered to the helpers, if there are any: where its notes have many values to make,
-    /// one for each note, channel and frame, unless it is one of those that are the caller's alone. So the first cycle
-    /// of 512 values or more is offered; after each one that was offered and that no helper began before the caller
-    /// was done 1, 2, 4 and so on up to 128 are the caller's alone, and none after one that a helper began (`cycle`). A
-    /// cycle that isn't offered needs no graph of its notes: the caller runs them (`Desk::run_alone`) and tells the
-    /// crew (`pass`).
+    /// Returns whether the next cycle is offered to the helpers. There must be a helper, and the caller must
+    /// not be running cycles without helpers: after each offered cycle that no helper began before the caller
+    /// was done, it runs the next 1, 2, 4 and so on up to 128 cycles without offering them, and none after a
+    /// cycle that a helper began (`cycle`). Once the crew has played a cycle in which two workers were
+    /// useful, the notes must also produce at least 512 `values`, one for each note, channel and frame;
+    /// before that a cycle of any size is offered. A cycle that isn't offered needs no graph of its notes:
+    /// the caller runs them (`Desk::run_alone`) and calls `pass`.
     pub fn offers(&self, values: usize) -> bool
         ensures { (result ≡ true)
-            ↔ ((few_values ≤ values) × (0 < helpers self.now) × (cycles_alone self.now ≡ 0)) }
+            ↔ (((few_values ≤ values) ⊎ (has_shared self.now ≡ false)) × (0 < helpers self.now)
+            × (cycles_alone self.now ≡ 0)) }
     {
-        values >= FEW_VALUES && !self.lines.is_empty() && self.sparing.alone == 0
+        let is_large = values >= FEW_VALUES || !self.has_shared;
+        is_large && !self.lines.is_empty() && self.sparing.alone == 0
     }
 
-    /// How many workers it has, the caller among them.
+    /// Returns the number of its workers, including the caller.
     pub fn workers(&self) -> u32
         ensures { result ≡ helpers self.now + 1 }
     {
         self.lines.len() as u32 + 1
     }
 
-    /// One cycle more was played, by the caller alone.
+    /// Records that the caller ran an offered cycle without helpers, because its notes wait for one another
+    /// or memory for sharing it ran out. It counts as a cycle that no helper began.
+    pub fn miss(&mut self)
+        ensures ended { ended self.new ≡ next_cycle (ended self.old) }
+        ensures helpers { helpers self.new ≡ helpers self.old }
+        ensures shared { has_shared self.new ≡ has_shared self.old }
+        ensures given { tasks_given self.new ≡ tasks_given self.old }
+        ensures served { tasks_served self.new ≡ tasks_served self.old }
+        ensures learned { Learns self.old self.new }
+    {
+        self.ended = self.ended.saturating_add(1);
+        self.sparing.learn(false);
+    }
+
+    /// Records that the caller ran one more cycle without helpers.
     pub fn pass(&mut self)
         ensures ended { ended self.new ≡ next_cycle (ended self.old) }
         ensures helpers { helpers self.new ≡ helpers self.old }
+        ensures shared { has_shared self.new ≡ has_shared self.old }
         ensures given { tasks_given self.new ≡ tasks_given self.old }
         ensures served { tasks_served self.new ≡ tasks_served self.old }
         ensures alone { cycles_alone self.new ≡ cycles_alone self.old - 1 }
@@ -125,7 +144,7 @@ impl<'e, J: Job + Drop, R: Wait, G: Gate> Pool<'e, J, R, G> {
         self.sparing.pass();
     }
 
-    /// How many helpers are to get a part in a cycle of this graph.
+    /// Returns how many helpers are to get a part in a cycle with this graph.
     fn wanted(&self, graph: &Graph) -> usize
         ensures { (chains : ℕ) × HasCover graph.now.edges (length graph.now.levels) chains
             × (result ≡ min (chains - 1) (helpers self.now)) }
@@ -134,8 +153,9 @@ impl<'e, J: Job + Drop, R: Wait, G: Gate> Pool<'e, J, R, G> {
         parts_of(chains, self.lines.len())
     }
 
-    /// The cycle on its board, by the caller and `others` helpers, each of which looks `hesitation` times before it
-    /// begins. Returns the board, of which nobody else has a share any more, and the first seat.
+    /// Plays the cycle on its board, with the caller and `others` helpers, each of which looks `hesitation`
+    /// times before it begins. Returns the board, of which no other thread has a share any more, and the
+    /// first seat.
     fn play(
         &mut self,
         board: Board<J>,
@@ -152,6 +172,7 @@ impl<'e, J: Job + Drop, R: Wait, G: Gate> Pool<'e, J, R, G> {
         ensures alone { IsFirst 0 (view result.1) }
         ensures ended { ended self.new ≡ ended self.old }
         ensures helpers { helpers self.new ≡ helpers self.old }
+        ensures shared { has_shared self.new ≡ has_shared self.old }
         ensures parts { GivesParts others self.old self.new }
         ensures learned { Learns self.old self.new }
     {
@@ -181,22 +202,23 @@ impl<'e, J: Job + Drop, R: Wait, G: Gate> Pool<'e, J, R, G> {
     }
 }
 
-/// How many of `helpers` helpers are of use beside the caller, where no more notes than chains run at once.
+/// Returns how many of `helpers` helpers are useful in addition to the caller, if at most `chains` notes can
+/// run at the same time.
 fn parts_of(chains: u32, helpers: usize) -> usize
     ensures { result ≡ min (chains - 1) helpers }
 {
     (chains.saturating_sub(1) as usize).min(helpers)
 }
 
-/// How often a helper looks before it takes part in a cycle of this graph.
+/// Returns how often a helper looks before it takes part in a cycle with this graph.
 fn hesitation_of(graph: &Graph) -> u32 {
     let notes = graph.len().saturating_mul(LOOKS_A_NOTE);
     let edges = graph.edge_count().saturating_mul(LOOKS_AN_EDGE);
     notes.saturating_add(edges).max(HESITATION)
 }
 
-/// What each worker of a cycle works with, whence a helper's part has its memory, and how often a helper looks before
-/// it begins.
+/// What each worker of a cycle works with, the allocator for helpers' parts, and how often a helper looks
+/// before it begins.
 #[derive(Drop)]
 struct Shift<'a, R, G> {
     rt: &'a R,
@@ -206,17 +228,17 @@ struct Shift<'a, R, G> {
     hesitation: u32,
 }
 
-/// What became of the helpers' parts in a cycle.
+/// The outcome of the helpers' parts in a cycle.
 #[derive(Clone, Copy)]
 struct Shared {
     /// Whether a helper had begun its part before the caller asked for it back.
     begun: bool,
-    /// Whether memory for a part was refused.
+    /// Whether memory for a part ran out.
     refused: bool,
 }
 
-/// The caller and `others` helpers work at the board: each of these gets a seat of its own and gives it back.
-/// Where memory for a part is refused, no further helper gets one.
+/// Lets the caller and `others` helpers work at the board; each helper gets a seat and gives it back. If
+/// memory for a part runs out, no further helper gets one.
 fn share<J: Job + Drop, R: Wait, G: Gate>(
     shift: &Shift<'_, R, G>,
     lines: &mut [Line<J>],
@@ -251,8 +273,8 @@ fn share<J: Job + Drop, R: Wait, G: Gate>(
     }
 }
 
-/// Up to `others` helpers, one after another, get a part in the cycle, as long as there is memory for them. Returns how
-/// many got one.
+/// Gives up to `others` helpers, one after another, a part in the cycle, as long as there is memory for their
+/// parts. Returns how many got one.
 fn lend_parts<J: Job + Drop, R: Wait, G: Gate>(
     shift: &Shift<'_, R, G>,
     lines: &mut [Line<J>],
@@ -275,8 +297,8 @@ fn lend_parts<J: Job + Drop, R: Wait, G: Gate>(
     others
 }
 
-/// Whether the helper got a part in the cycle: a share of the board, and a seat that is split off `first`. It gets none
-/// where memory for it is refused.
+/// Gives the helper a part in the cycle: a share of the board, and a seat that is split off `first`. Returns
+/// whether it got one; it doesn't if memory for it runs out.
 fn lend<J: Job + Drop, R: Wait, G: Gate>(
     shift: &Shift<'_, R, G>,
     line: &mut Line<J>,
@@ -302,7 +324,7 @@ fn lend<J: Job + Drop, R: Wait, G: Gate>(
     true
 }
 
-/// `first` takes the helper's seat in, after its work. Returns whether the helper had begun.
+/// Joins the helper's seat into `first`, after the helper's work. Returns whether the helper had begun.
 fn take_in<J: Job + Drop, R: Wait>(
     rt: &R,
     line: &mut Line<J>,
@@ -324,7 +346,7 @@ fn take_in<J: Job + Drop, R: Wait>(
     begun
 }
 
-/// The board, once nobody else has a share of it. Each helper let its share go before it gave its
+/// Returns the board once no other thread has a share of it. Each helper drops its share before it gives its
 /// seat back, so there is nothing to wait for.
 fn sole<J: Job, R: Wait>(rt: &R, board: Arc<Board<J>, Global>) -> Board<J>
     ensures { result ≡ arc_value board }

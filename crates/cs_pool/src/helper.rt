@@ -1,4 +1,4 @@
-// What a helper does from its start to the end of the performance.
+// The work of a helper from its start to the end of the performance.
 ghost use Rattle.std.specs.Arc.{arc_value};
 ghost use Rattle.cs_pool.specs.Mailboxes.{IsFree};
 
@@ -14,26 +14,27 @@ use std::hint::spin_loop;
 use std::sync::{Arc, Wait};
 use std::thread;
 
-/// How often a helper looks for a task before it sleeps.
+// The number of times that a helper looks for a task before it sleeps.
 const LOOKS: u32 = 2_200;
 
-/// How many of these looks follow each other at once, some microseconds together. Between the others it lets other
-/// threads go first, so that in a row of cycles with some tens of microseconds between them nobody has to be woken.
+// The number of these looks that follow each other immediately, a few microseconds in total. After that many
+// it yields to other threads between looks, so that no helper has to be woken in a series of cycles that are
+// a few tens of microseconds apart.
 const BRISK_LOOKS: u32 = 2_000;
 
-/// How many tasks in a row a helper takes, each after half the hesitation before it. Then it hesitates as long as at
-/// first again.
+// The number of tasks in succession for which a helper halves its hesitation each time. After that it
+// hesitates as long as at first again.
 const EAGER_TASKS: u32 = 64;
 
-/// How long a helper that has taken a task and finds no note to claim looks for one, while notes wait. It never lets
-/// other threads go first: the caller can't take the task back any more, so whoever keeps this helper from the
-/// processor then holds up the cycle.
+// How long a helper that has taken a task and finds no note to claim goes on looking, while notes wait. It
+// never yields to other threads: the caller can't take the task back any more, so a thread that keeps this
+// helper from the processor would delay the cycle.
 const PATIENCE: Patience = Patience {
     looks: 10_000,
     brisk: 10_000,
 };
 
-/// Takes part in each cycle for which there is a task in the mailbox, until there will be none.
+/// Takes part in each cycle for which there is a task in the mailbox, until there will be no further task.
 pub(crate) fn help<J: Job + Drop, G: Gate, R: Wait>(
     rt: &R,
     gate: &G,
@@ -54,8 +55,8 @@ pub(crate) fn help<J: Job + Drop, G: Gate, R: Wait>(
     unreachable!()
 }
 
-/// Looks for a task, or for the end of all tasks, for a while, and then sleeps until the caller
-/// wakes it. Returns the word as it found it last.
+// Looks for a task, or for the end of all tasks, for a while, and then sleeps until the caller wakes it.
+// Returns the word that it found last.
 fn await_word<J: Job + Drop, R: Wait>(
     rt: &R,
     mailbox: &Mailbox<J>,
@@ -72,7 +73,7 @@ fn await_word<J: Job + Drop, R: Wait>(
     mailbox.word()
 }
 
-/// Between the look of this number and the next, where the first `brisk` looks are brisk.
+/// Pauses between look number `look` and the next one; the first `brisk` pauses are short.
 pub(crate) fn pause(look: u32, brisk: u32) {
     if look < brisk {
         spin_loop();
@@ -81,9 +82,9 @@ pub(crate) fn pause(look: u32, brisk: u32) {
     }
 }
 
-/// One task, unless the caller has taken it back: the helper works at its seat, lets its share of
-/// the board go, gives the seat back, and leaves the group, in this order. `taken` is how many tasks in a row it has
-/// taken; it returns how many these are now.
+// Does one task, unless the caller has taken it back: the helper works at its seat, drops its share of the
+// board, gives the seat back, and leaves the group, in this order. `taken` is the number of tasks in
+// succession that it has taken; returns the number after this one.
 fn serve<J: Job + Drop, G: Gate, R: Wait>(
     rt: &R,
     gate: &G,
@@ -111,9 +112,10 @@ fn serve<J: Job + Drop, G: Gate, R: Wait>(
     if taken < EAGER_TASKS { taken + 1 } else { 0 }
 }
 
-/// Lets the caller take a task back that it plays itself within a short while, by the hesitation that lies with the
-/// task: a cycle that is over by then isn't shared. The looks follow one another at once: a pause of the processor,
-/// which takes from 4 to 60 nanoseconds, would make them as long as a heavy cycle.
+// Lets the caller take back a task that it can play itself within a short while, given by the hesitation of
+// the task: a cycle that is over by then isn't shared. The looks follow one another immediately: a pause
+// instruction of the processor, which takes from 4 to 60 nanoseconds, would make them as long as a heavy
+// cycle.
 fn hesitate<J: Job + Drop>(mailbox: &Mailbox<J>, taken: u32) {
     let looks = mailbox.hesitation().checked_shr(taken).unwrap_or(0);
     for _ in 0..looks {

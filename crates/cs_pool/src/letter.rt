@@ -1,4 +1,4 @@
-// What lies in a helper's mailbox, and the values of its word.
+// The content of a helper's mailbox, and the values of its word.
 ghost use Rattle.std.specs.Prelude.{◌≡◌};
 ghost use Rattle.cs_pool.specs.Mailboxes.{HasNothingOut};
 
@@ -9,19 +9,19 @@ use cs_cells::Job;
 use std::alloc::Global;
 use std::sync::Arc;
 
-/// Nothing is out, and no task lies in the mailbox.
+/// The helper has no seat, and there is no task in the mailbox.
 pub(crate) const EMPTY: u64 = 0;
-/// A task lies in the mailbox, and the helper hasn't taken it.
+/// A task is in the mailbox, and the helper hasn't taken it.
 pub(crate) const GIVEN: u64 = 1;
 /// The helper has taken the task, and works at it.
 pub(crate) const TAKEN: u64 = 2;
-/// The helper's seat lies in the mailbox, after its work.
+/// The helper's seat is in the mailbox, after its work.
 pub(crate) const BACK: u64 = 3;
 /// There will be no further task.
 pub(crate) const OVER: u64 = 4;
 
-/// A helper's part in one control cycle: a share of the cycle's board, a seat at it, the cycle's
-/// number for the gate, and the helper's membership in the group that the caller waits for.
+/// A helper's part in one control cycle: a share of the cycle's board, a seat at it, the cycle's number for
+/// the gate, and the helper's membership in the group for which the caller waits.
 #[derive(Drop)]
 pub(crate) struct Task<J: Job> {
     pub(crate) board: Arc<Board<J>, Global>,
@@ -31,7 +31,7 @@ pub(crate) struct Task<J: Job> {
 }
 
 impl<J: Job + Drop> Task<J> {
-    /// The seat alone, of a task that no helper has taken and that is the caller's again.
+    /// Returns only the seat, of a task that no helper has taken and that belongs to the caller again.
     pub(crate) fn into_seat(self, mailbox: &Mailbox<J>, end: &CallerEnd<J>) -> BoardSeat<J>
         requires { HasNothingOut mailbox.now end.now }
         ensures { result ≡ self.seat }
@@ -48,7 +48,7 @@ impl<J: Job + Drop> Task<J> {
     }
 }
 
-/// What lies in a mailbox: a task from the caller, or the seat that comes back from the helper.
+/// The content of a mailbox: a task from the caller, or the seat that comes back from the helper.
 #[derive(Drop)]
 pub(crate) enum MailboxLetter<J: Job> {
     Nothing,

@@ -18,32 +18,33 @@ use std::sync::{Arc, Wait};
 use std::thread;
 use std::thread::{Builder, JoinHandle, Scope, Threads};
 
-/// The bytes of stack that a helper has, whatever the system gives. A note's program is run by recursion,
-/// which takes some hundred bytes a level.
+// The stack size of a helper in bytes, whatever the system's default is. A note's program is run by
+// recursion, which takes a few hundred bytes for each level.
 const STACK: usize = 1 << 20;
 
-/// How often the caller looks for the seat of a helper that still works, before it sleeps until the
-/// helper has given the seat back.
+// The number of times that the caller looks for the seat of a helper that is still working, before it sleeps
+// until the helper has given the seat back.
 const LOOKS: u32 = 1_200;
 
-/// How many of these looks follow each other at once, a few microseconds together. Between the
-/// others it lets other threads go first.
+// The number of these looks that follow each other immediately, a few microseconds in total. After that many
+// it yields to other threads between looks.
 const BRISK_LOOKS: u32 = 1_000;
 
-/// The mailbox of a helper and the caller's end of it, with what wakes the helper and what its thread is joined by.
+/// The mailbox of a helper and the caller's end of it, with the object that wakes the helper and the handle
+/// that joins its thread.
 pub(crate) struct Line<J: Job> {
     pub(crate) mailbox: Arc<Mailbox<J>, Global>,
     pub(crate) end: CallerEnd<J>,
     unparker: Unparker<Global>,
     handle: JoinHandle<()>,
-    /// The caller's own membership in the group that the helper leaves after its work. It lasts from
-    /// cycle to cycle, until the caller has to wait for the group.
+    // The caller's own membership in the group that the helper leaves after its work. It lasts from cycle to
+    // cycle, until the caller has to wait for the group.
     group: Option<WaitGroup<Global>>,
 }
 
 impl<J: Job + Drop> Line<J> {
-    /// Starts a helper in a thread of the scope, with a stack of its own size. It fails only for want of memory
-    /// or of a thread.
+    /// Starts a helper in a thread of the scope, with a stack of a fixed size. It fails only if memory runs
+    /// out or no thread can be started.
     pub(crate) fn start<'s, 'e, R, G>(
         rt: &'e R,
         scope: &'s Scope<'s, &'e ()>,
@@ -73,7 +74,8 @@ impl<J: Job + Drop> Line<J> {
         })
     }
 
-    /// What the helper needs beside its seat: a share of the board, and a membership in the group.
+    /// Makes what the helper needs in addition to its seat: a share of the board, and a membership in the
+    /// group.
     pub(crate) fn part_in(
         &mut self,
         alloc: Global,
@@ -89,7 +91,8 @@ impl<J: Job + Drop> Line<J> {
         Ok((share, member))
     }
 
-    /// Hands a task out to the helper, which is to look so often before it takes it, and wakes it.
+    /// Gives a task to the helper, which is to look `hesitation` times before it takes it, and wakes the
+    /// helper.
     pub(crate) fn give(&mut self, task: Task<J>, hesitation: u32)
         requires idle { IsIdle self.old }
         requires task { IsDone J.means (arc_value task.board) task.seat }
@@ -100,8 +103,9 @@ impl<J: Job + Drop> Line<J> {
         self.unparker.unpark();
     }
 
-    /// The seat that is out, after its work. A helper that hasn't begun is not waited for: its seat is taken back. Else
-    /// the caller looks for the seat for a while, and then sleeps until the helper leaves the group.
+    /// Returns the seat that is out, after its work. The caller doesn't wait for a helper that hasn't begun:
+    /// it takes the seat back. Otherwise it looks for the seat for a while, and then sleeps until the helper
+    /// leaves the group.
     pub(crate) fn await_seat<R: Wait>(&mut self, rt: &R) -> Returned<J>
         requires { IsBusy self.old }
         ensures home { IsIdle self.new }
@@ -125,7 +129,7 @@ impl<J: Job + Drop> Line<J> {
         unreachable!()
     }
 
-    /// The seat that is out, where it is found within a while.
+    // Returns the seat that is out, or None if it isn't found within a while.
     fn look(&mut self) -> Option<Returned<J>>
         requires { IsBusy self.old }
         ensures looked { LooksFor J.means (arc_value self.old.mailbox) (arc_value self.new.mailbox)
@@ -141,7 +145,7 @@ impl<J: Job + Drop> Line<J> {
         None
     }
 
-    /// The seat that is out, where it has come back or the helper hasn't begun.
+    // Returns the seat that is out if it has come back or the helper hasn't begun, and otherwise None.
     fn collect(&mut self) -> Option<Returned<J>>
         requires { IsBusy self.old }
         ensures looked { LooksFor J.means (arc_value self.old.mailbox) (arc_value self.new.mailbox)
@@ -172,7 +176,7 @@ impl<J: Job + Drop> Line<J> {
     }
 }
 
-/// A mailbox with two owners, and its two ends.
+// Makes a mailbox with two owners, and its two ends.
 fn shared_mailbox<J: Job + Drop>(
     alloc: Global,
 ) -> Result<
@@ -193,7 +197,7 @@ fn shared_mailbox<J: Job + Drop>(
     Ok((mine, theirs, end, helper_end))
 }
 
-/// A membership in the group, which is made where there is none.
+// Returns a membership in the group, which is made if there is none.
 fn joined(alloc: Global, group: &mut Option<WaitGroup<Global>>) -> Result<Member, AllocError> {
     if let Some(group) = group {
         return Member::of(group);
@@ -204,7 +208,7 @@ fn joined(alloc: Global, group: &mut Option<WaitGroup<Global>>) -> Result<Member
     Ok(member)
 }
 
-/// What a helper sleeps on, and what wakes it.
+// Makes the object on which a helper sleeps, and the one that wakes it.
 fn bell(alloc: Global) -> Result<(Parker<Global>, Unparker<Global>), AllocError> {
     let parker = Parker::new(alloc)?;
     let unparker = parker.unparker().clone()?;

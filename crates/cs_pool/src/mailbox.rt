@@ -1,4 +1,4 @@
-// The mailbox of one helper: the caller gives it a task in each cycle and gets its seat back.
+// The mailbox of one helper: the caller puts a task into it in each cycle and gets the seat back.
 ghost use Rattle.std.specs.{Prelude.◌≡◌, Prelude.IfOk, Prelude.IfSome, Prelude.IfNone, Arc.arc_value};
 ghost use Rattle.cs_board.specs.{declared.board.Board.Board, declared.board.BoardSeat.BoardSeat};
 ghost use Rattle.cs_pool.specs.Working.{IsReady, IsDone, IsThrough};
@@ -21,7 +21,7 @@ pub(crate) type End<J> = Seat<MailboxLetter<J>, Knows<J>>;
 #[derive(Drop)]
 pub(crate) struct Mailbox<J: Job> {
     pub(crate) table: Table<MailboxLetter<J>, Knows<J>, (), MailboxRule, Global>,
-    /// How often the helper is to look before it takes the last task. No promise rests on it.
+    // How often the helper is to look before it takes the last task. No promise depends on it.
     hesitation: AtomicU32,
     ghost sized: { (table.shared.table_id.words ≡ 1) × (table.shared.table_id.slots ≡ 1) },
 }
@@ -38,7 +38,8 @@ pub(crate) struct HelperEnd<J: Job> {
     pub(crate) seat: End<J>,
 }
 
-/// A seat that is the caller's again, and whether the helper had begun its task: else the seat is as it was handed out.
+/// A seat that belongs to the caller again, and whether the helper had begun its task; if it hadn't, the seat
+/// is as it was given.
 #[derive(Drop)]
 pub(crate) struct Returned<J: Job> {
     pub(crate) seat: BoardSeat<J>,
@@ -49,7 +50,7 @@ impl<J: Job + Drop> Mailbox<J> {
     ghost use Rattle.cs_pool.specs.Mailboxes.{HasNothingOut, HasOut, HasSomethingOut, IsFree, IsOnDuty, LooksFor};
     ghost use Rattle.cs_pool.specs.{Mailboxes.tasks, Letters.one_given};
 
-    /// A mailbox and its two ends. It fails only for want of memory.
+    /// Makes a mailbox and its two ends. It fails only if memory runs out.
     pub(crate) fn new(alloc: Global) -> Result<(Mailbox<J>, CallerEnd<J>, HelperEnd<J>), AllocError>
         ensures caller { IfOk result (λ r. HasNothingOut r.0 r.1) }
         ensures helper { IfOk result (λ r. IsFree r.0 r.2) }
@@ -71,8 +72,8 @@ impl<J: Job + Drop> Mailbox<J> {
         ))
     }
 
-    /// The caller hands out a task, whose seat does nothing and owes nothing. The helper is to look so often before it
-    /// takes it.
+    /// Puts a task into the mailbox, whose seat does nothing and owes nothing. The helper is to look
+    /// `hesitation` times before it takes it.
     pub(crate) fn give(&self, end: &mut CallerEnd<J>, task: Task<J>, hesitation: u32)
         requires end { HasNothingOut self.now end.old }
         requires task { IsDone J.means (arc_value task.board) task.seat }
@@ -86,8 +87,8 @@ impl<J: Job + Drop> Mailbox<J> {
         shared.store::<Give>(&mut end.seat, 0, GIVEN);
     }
 
-    /// The seat that is out, after its work, where the helper has given it back, or as it was handed
-    /// out, where the helper hasn't taken its task; else None, and it stays out.
+    /// Returns the seat that is out: after its work if the helper has given it back, or as it was given if
+    /// the helper hasn't taken its task. Otherwise returns None, and the seat stays out.
     pub(crate) fn collect(&self, end: &mut CallerEnd<J>) -> Option<Returned<J>>
         requires { HasSomethingOut self.now end.old }
         ensures { LooksFor J.means self.now self.now end.old end.new result }
@@ -98,7 +99,7 @@ impl<J: Job + Drop> Mailbox<J> {
         }
     }
 
-    /// The seat that is out, where it has come back.
+    // Returns the seat that is out if it has come back, otherwise None.
     fn fetch_answer(&self, end: &mut CallerEnd<J>) -> Option<Returned<J>>
         requires { HasSomethingOut self.now end.old }
         ensures { LooksFor J.means self.now self.now end.old end.new result }
@@ -115,7 +116,7 @@ impl<J: Job + Drop> Mailbox<J> {
         Some(Returned { seat, begun: true })
     }
 
-    /// The seat that is out, where the helper hasn't taken its task.
+    // Returns the seat that is out if the helper hasn't taken its task, otherwise None.
     fn withdraw(&self, end: &mut CallerEnd<J>) -> Option<Returned<J>>
         requires { HasSomethingOut self.now end.old }
         ensures { LooksFor J.means self.now self.now end.old end.new result }
@@ -135,7 +136,7 @@ impl<J: Job + Drop> Mailbox<J> {
         })
     }
 
-    /// There will be no further task: the helper ends when it finds that.
+    /// Announces that there will be no further task: the helper ends when it finds that.
     pub(crate) fn end(&self, end: &mut CallerEnd<J>)
         requires { HasNothingOut self.now end.old }
         ensures { HasNothingOut self.now end.new }
@@ -143,17 +144,18 @@ impl<J: Job + Drop> Mailbox<J> {
         self.table.shared.store::<Close>(&mut end.seat, 0, OVER);
     }
 
-    /// A look at the word, one of those of `letter`. It may have changed since.
+    /// Looks at the word, which has one of the values in `letter`. It may have changed since.
     pub(crate) fn word(&self) -> u64 {
         self.table.shared.peek(0)
     }
 
-    /// How often the helper is to look before it takes the task that lies there. It may have changed since.
+    /// Returns how often the helper is to look before it takes the task in the mailbox. It may have changed
+    /// since.
     pub(crate) fn hesitation(&self) -> u32 {
         self.hesitation.load(Ordering::SeqCst)
     }
 
-    /// The helper takes the task that was handed out. None where there is none.
+    /// Takes the task that was given, or returns None if there is none.
     pub(crate) fn take(&self, end: &mut HelperEnd<J>) -> Option<Task<J>>
         requires { IsFree self.now end.old }
         ensures some { IfSome result (λ task. IsOnDuty self.now end.new (arc_value task.board) task.seat) }
@@ -172,7 +174,7 @@ impl<J: Job + Drop> Mailbox<J> {
         Some(task)
     }
 
-    /// The helper gives its seat back, after its work.
+    /// Gives the helper's seat back, after its work.
     pub(crate) fn give_back(&self, end: &mut HelperEnd<J>, seat: BoardSeat<J>)
         requires { (b : Board J.row.Denot) × (s : BoardSeat J.row.Denot)
             × IsOnDuty self.now end.old b s × IsThrough J.means b s seat }

@@ -1,9 +1,11 @@
-// The mailbox's rule as a rule of a table, and what each kind of step tells.
+// Implements the mailbox's protocol as a rule for `atomic_table`, and states what each kind of step lets an
+// end know.
 use crate::letter::MailboxLetter;
 use crate::view::Knows;
 use atomic_table::{Play, Split, TableRule};
 use cs_cells::Job;
 
+/// The mailbox's rule, as `atomic_table` calls it.
 pub(crate) struct MailboxRule;
 
 impl<J: Job> TableRule<MailboxLetter<J>, Knows<J>, ()> for MailboxRule {
@@ -15,7 +17,7 @@ impl<J: Job> TableRule<MailboxLetter<J>, Knows<J>, ()> for MailboxRule {
     ghost first = { λ _. beginning Maker };
 }
 
-/// The first end takes the slot along, at a load.
+/// The first end takes the content of the slot, with a load.
 pub(crate) struct Fetch;
 
 impl<J: Job> Play<MailboxLetter<J>, Knows<J>> for Fetch {
@@ -36,7 +38,7 @@ impl<J: Job> Split<Knows<J>> for SplitOff {
     ghost right = { λ _. helper None };
 }
 
-/// A task is handed out: the slot goes home, and the word is GIVEN.
+/// A task is given: the slot receives it, and the word becomes GIVEN.
 pub(crate) struct Give;
 
 impl<J: Job> Play<MailboxLetter<J>, Knows<J>> for Give {
@@ -45,7 +47,7 @@ impl<J: Job> Play<MailboxLetter<J>, Knows<J>> for Give {
     ghost then = { gave };
 }
 
-/// A task is taken: the word, which was GIVEN, is TAKEN, and the slot is the helper's.
+/// A task is taken: the word changes from GIVEN to TAKEN, and the helper has the slot's content.
 pub(crate) struct Take;
 
 impl<J: Job> Play<MailboxLetter<J>, Knows<J>> for Take {
@@ -54,7 +56,7 @@ impl<J: Job> Play<MailboxLetter<J>, Knows<J>> for Take {
     ghost then = { took J.means };
 }
 
-/// The helper's seat is given back: the slot goes home, and the word is BACK.
+/// The helper's seat is given back: the slot receives it, and the word becomes BACK.
 pub(crate) struct GiveBack;
 
 impl<J: Job> Play<MailboxLetter<J>, Knows<J>> for GiveBack {
@@ -63,7 +65,7 @@ impl<J: Job> Play<MailboxLetter<J>, Knows<J>> for GiveBack {
     ghost then = { gave_back };
 }
 
-/// The answer is taken: the word, which was BACK, is EMPTY, and the slot is the caller's.
+/// The seat is collected: the word changes from BACK to EMPTY, and the caller has the slot's content.
 pub(crate) struct Collect;
 
 impl<J: Job> Play<MailboxLetter<J>, Knows<J>> for Collect {
@@ -72,7 +74,8 @@ impl<J: Job> Play<MailboxLetter<J>, Knows<J>> for Collect {
     ghost then = { collected J.means };
 }
 
-/// A task that nobody has taken is taken back: the word, which was GIVEN, is EMPTY, and the slot is the caller's.
+/// A task that the helper hasn't taken is taken back: the word changes from GIVEN to EMPTY, and the caller
+/// has the slot's content.
 pub(crate) struct Withdraw;
 
 impl<J: Job> Play<MailboxLetter<J>, Knows<J>> for Withdraw {
@@ -81,7 +84,7 @@ impl<J: Job> Play<MailboxLetter<J>, Knows<J>> for Withdraw {
     ghost then = { withdrew J.means };
 }
 
-/// The word is OVER.
+/// The word becomes OVER.
 pub(crate) struct Close;
 
 impl<J: Job> Play<MailboxLetter<J>, Knows<J>> for Close {

@@ -1,4 +1,4 @@
-// A control cycle by a crew that stands for it alone.
+// A control cycle with a crew that exists only for this cycle.
 ghost use Rattle.std.specs.Prelude.{◌≡◌};
 ghost use Rattle.cs_desk.specs.Cycles.{IsCycle, WasPlayed};
 
@@ -13,13 +13,14 @@ use std::sync::{Arc, Wait};
 use std::thread;
 use std::thread::Threads;
 
-/// Runs the notes of one control cycle, and returns a receipt with their jobs, the desk, and the graph, as if the notes
-/// had run one by one in serial order over the desk's cells.
+/// Runs the notes of one control cycle, and returns a receipt with their jobs, the desk, and the graph, as if
+/// the notes had run one by one in serial order on the desk's cells.
 ///
-/// `graph` is that of the jobs, which stand in serial order. The desk's layout is that of each job, and it has room for
-/// the cycle. The crew's workers but the caller are threads that are started here and have ended when the call returns,
-/// so none is started by a crew of one. The crew's gate is called with `cycle` and the note's place before each note is
-/// run. It can't fail: a worker for which there is no memory or no thread leaves its notes to the others.
+/// `graph` is the graph of the jobs, which are in serial order. Each job has the desk's layout, and the desk
+/// has room for the cycle. The crew's workers except the caller are threads that are started here and have
+/// ended when the call returns, so a crew of one starts none. The crew's gate is called with `cycle` and the
+/// note's index before each note is run. The call can't fail: a worker for which there is no memory or no
+/// thread leaves its notes to the others.
 pub fn run_cycle<J: Job + Send + Drop, R: Threads + Wait + Sync, G: Gate + Sync>(
     crew: &Crew<'_, R, G>,
     alloc: Global,

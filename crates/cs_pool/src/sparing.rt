@@ -1,13 +1,15 @@
-// How long the caller plays alone after cycles in which no helper was of use.
+// How long the caller plays without helpers after cycles in which no helper was useful.
 ghost use Rattle.std.specs.Prelude.{◌≡◌, ◌≤◌, ◌-◌, ◌*◌, min, true, false};
 ghost use Rattle.cs_pool.specs.Alone.{most_alone};
 
-/// The most cycles in a row that the caller plays alone before it offers one to the helpers again.
+// The highest number of cycles in succession that the caller plays without helpers before it offers one
+// again.
 const MOST_ALONE: u32 = 128;
 
-/// How many of the next cycles the caller plays alone, and how many after the next one that it offers and
-/// that no helper begins. So short cycles neither wake helpers nor keep them looking, which would take the
-/// caller's processor time, and a short cycle among long ones costs one cycle alone.
+/// How many of the next cycles the caller plays without helpers, and how many after the next one that it
+/// offers and that no helper begins. So short cycles neither wake helpers nor keep them looking, which would
+/// take processor time from the caller, and a short cycle among long ones costs only one cycle without
+/// helpers.
 #[derive(Drop)]
 pub(crate) struct Sparing {
     pub(crate) alone: u32,
@@ -16,7 +18,7 @@ pub(crate) struct Sparing {
 }
 
 impl Sparing {
-    /// The next cycle is offered, and nothing was missed so far.
+    /// Offers the next cycle; no offer was missed so far.
     pub(crate) fn new() -> Sparing
         ensures { (result.alone ≡ 0) × (result.after_a_miss ≡ 1) }
     {
@@ -26,7 +28,7 @@ impl Sparing {
         }
     }
 
-    /// The caller has played a cycle alone.
+    /// Records that the caller has played a cycle without helpers.
     pub(crate) fn pass(&mut self)
         ensures alone { self.new.alone ≡ self.old.alone - 1 }
         ensures miss { self.new.after_a_miss ≡ self.old.after_a_miss }
@@ -34,8 +36,8 @@ impl Sparing {
         self.alone = self.alone.saturating_sub(1);
     }
 
-    /// A cycle was offered, and a helper had `begun` before the caller was done, or none had: then as many
-    /// cycles alone follow as after the miss before, twice.
+    /// Records that a cycle was offered. If a helper had `begun` before the caller was done, the next cycle
+    /// is offered too; otherwise cycles without helpers follow, twice as many as after the miss before.
     pub(crate) fn learn(&mut self, begun: bool)
         ensures begun { begun ≡ true → (self.new.alone ≡ 0) × (self.new.after_a_miss ≡ 1) }
         ensures missed { begun ≡ false → (self.new.alone ≡ self.old.after_a_miss)

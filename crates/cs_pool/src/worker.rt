@@ -1,4 +1,4 @@
-// What one worker does: a helper at its seat, and the caller at its own.
+// The work of one worker: a helper at its seat, and the caller at its own.
 ghost use Rattle.cs_pool.specs.Working.{IsReady, IsThrough};
 
 use cs_board::{Board, BoardSeat, Patience};
@@ -6,8 +6,9 @@ use cs_cells::Job;
 use cs_edge::Gate;
 use std::sync::Wait;
 
-/// Claims a note, calls the gate, runs the note and finishes it, and so on until all notes have begun, or until it has
-/// looked for one in vain so long that it leaves. Whoever leaves does no note and owes none.
+/// Claims a note, calls the gate, runs the note and finishes it, and so on until all notes have begun, or
+/// until it has looked for one in vain for so long that it leaves. A worker that leaves runs no note and owes
+/// no try.
 pub(crate) fn work<J: Job, G: Gate, R: Wait>(
     rt: &R,
     board: &Board<J>,

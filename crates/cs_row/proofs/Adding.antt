@@ -10,14 +10,14 @@ use Rattle.cs_row.specs.{Heard.HeardRow, Heard.IsSumOf, Laws.all_notes}
 pub nothing_small : (n : ℕ) → IsSumOf n (pos 0)
 nothing_small n = record { low = omega (arith, ints); high = omega (arith, ints) }
 
--- what tests of numbers tell
+-- what tests of numbers show
 pub apart : (m n : ℕ) → (m == n) ≡ false → m ≢ n
 apart m n h = grind (arith, nat_tests)
 
 pub no_lower : (m n : ℕ) → nat_lt m n ≡ false → n ≤ m
 no_lower m n h = grind (arith, nat_tests)
 
--- a sum of the profile fits a word
+-- a sum of the profile's numbers fits into a word
 pub read_back : (n : ℕ) (z : ℤ) → IsSumOf n z → n ≤ most_notes → to_z w64 (of_z w64 z) ≡ z
 read_back n z s few = omega (arith, ints, s.low, s.high, few)
 
@@ -43,7 +43,7 @@ module _ {J : Type 0} (rows : List (HeardRow J)) (at : ℕ) (row : HeardRow J) (
   pub notes_more : length (all_notes (take (at + 1) rows)) ≡ length (all_notes (take at rows)) + length row.jobs
   notes_more = grind (arith, common_steps, append-nil, flat_map-append, length-append, map-append, more)
 
-  -- no more than there are in all
+  -- no more than all notes together
   pub notes_within : length (all_notes (take at rows)) + length row.jobs ≤ length (all_notes rows)
   notes_within = subst (λ (n : ℕ). n ≤ length (all_notes rows)) notes_more (fewer rows (at + 1))
     where

@@ -1,4 +1,4 @@
--- Notes are cut into rows one after another: a note joins the last row, or begins one.
+-- Notes are cut into rows one after another: a note joins the last row, or begins a new one.
 use Rattle.std.proofs.lemmas.{Grind.common_steps, List.Concat.flat_map-append}
 use Rattle.std.proofs.Common.{◌≡◌, ◌<◌, ◌≤◌, ◌+◌, ◌-◌, get_or, set, ℕ, List, [], ◌∷◌, ◌++◌, length, map, take, refl}
 use Rattle.std.proofs.Common.{sym, ap, ◌∙◌, Some, subst, arith, append_assoc, append-nil}
@@ -37,19 +37,19 @@ module _ {A : Type 0} where
       ∙ ap (λ (k : ℕ). xs ++ set (x ∷ []) k y) none
 
 module _ {J : Type 0} (M : Meaning J) (most : ℕ) where
-  -- a note by itself is a row
+  -- a single note is a row
   alone : (j : J) → M.valid j → IsRow M (j ∷ [])
   alone j valid = grind (arith, common_steps)
 
   alone_free : (j : J) → IsFree M (j ∷ [])
   alone_free j l = absurd (omega (arith, l))
 
-  -- one row more
+  -- one more row
   more_rows : (notes : List J) (rows : List (List J)) (row : List J) → AreRowsOf M most notes rows → IsRow M row
       → IsFree M row → length row ≤ most → AreRowsOf M most (notes ++ row) (rows ++ row ∷ [])
   more_rows notes rows row c is free few = grind (arith, common_steps, append-nil, flat_map-append)
 
-  -- one note more, which begins a row
+  -- one more note, which begins a row
   begins : (notes : List J) (cuts : List ℕ) (j : J) → IsCut M most notes cuts → M.valid j → 1 ≤ most
       → IsCut M most (notes ++ j ∷ []) (cuts ++ 1 ∷ [])
   begins notes cuts j c valid room = record {
@@ -58,7 +58,7 @@ module _ {J : Type 0} (M : Meaning J) (most : ℕ) where
     lengths = map-append length c.rows ((j ∷ []) ∷ []) ∙ ap (λ (l : List ℕ). l ++ 1 ∷ []) c.lengths;
   }
 
-  -- the last row, and those before it
+  -- the last row, and the rows before it
   record HasLastRow (notes : List J) (cuts : List ℕ) : Type 0 where
     front : List (List J)
     row : List J
@@ -88,7 +88,7 @@ module _ {J : Type 0} (M : Meaning J) (most : ℕ) where
             ∙ ap (λ (l : List J). notes_in h.front ++ l) (append-nil h.last);
       }
 
-  -- a row with one job more that touches the same
+  -- a row with one more job that touches the same resources
   grown : (row : List J) (j : J) → IsRow M row → M.areas j ≡ row_areas M row → M.foot j ≡ row_foot M row → M.valid j
       → IsRow M (row ++ j ∷ [])
   grown [] j r areas foot valid = absurd (let l : 0 < 0 = r.some in omega (arith, l))
@@ -116,7 +116,7 @@ module _ {J : Type 0} (M : Meaning J) (most : ℕ) where
       (sym (is ∙ get_or-append_right before row (length before) n x refl behind))
       (r.alike (n - length before) x within)
 
-  -- one note more, which joins the last row
+  -- one more note, which joins the last row
   joins : (notes : List J) (cuts : List ℕ) (j : J) (h : HasLastRow notes cuts) → length h.row < most
       → M.areas j ≡ row_areas M h.row → M.foot j ≡ row_foot M h.row → (M.foot j).writes ≡ [] → M.valid j
       → IsCut M most (notes ++ j ∷ []) (map length h.front ++ (length h.row + 1) ∷ [])
@@ -133,7 +133,7 @@ module _ {J : Type 0} (M : Meaning J) (most : ℕ) where
         lengths = map-append length h.front (row ∷ []) ∙ ap (λ (n : ℕ). map length h.front ++ n ∷ []) long;
       }
 
-  -- the next note, by its place
+  -- the next note, by its index
   module _ (notes : List J) (at : ℕ) (next : J) (cuts : List ℕ) (within : at < length notes)
       (next_is : next ≡ get_or notes at next) (valid : All M.valid notes) (c : IsCut M most (take at notes) cuts) where
     next_valid : M.valid next
@@ -187,7 +187,7 @@ module _ {J : Type 0} (M : Meaning J) (most : ℕ) where
           (joins (take at notes) cuts next h (omega (arith, room, count))
           (areas ∙ one_touches.areas_are) (sym same ∙ one_touches.foot_is) none next_valid))
 
-  -- where a note is, there is one
+  -- there is a note at the index
   record IsThere (notes : List J) (at : ℕ) : Type 0 where
     note : J
     is : note ≡ get_or notes at note

@@ -1,4 +1,4 @@
--- Notes are parted in rows of the lengths that were cut, one row after another.
+-- Notes are split into rows with the lengths that were cut, one row after another.
 use Rattle.std.proofs.lemmas.{Grind.common_steps, List.Elements.All-same, List.Folds.length-flat_map-take}
 use Rattle.std.proofs.Common.{◌≡◌, ◌<◌, ◌≤◌, ◌+◌, get_or, ℕ, List, [], ◌∷◌, ◌++◌, length, map, take, drop, reverse}
 use Rattle.std.proofs.Common.{refl, sym, ap, ◌∙◌, subst, arith, append-nil, append_assoc}
@@ -10,7 +10,7 @@ use Rattle.cs_cells.specs.{Meaning.Meaning, declared.footprint.Footprint.Footpri
 use Rattle.cs_row.specs.{Cuts.IsCut, Rows.IsRow, Rows.notes_in, Rows.row_foot}
 
 module _ {A : Type 0} where
-  -- two lists joined, the first of one length each, are the same two
+  -- if two joined lists are equal and their first parts have the same length, both parts are equal
   pub record AreSameTwo (xs ys us vs : List A) : Type 0 where
     pub first : xs ≡ us
     pub then_same : ys ≡ vs
@@ -28,7 +28,7 @@ module _ {A : Type 0} where
   pub nothing_left : (xs : List A) → reverse xs ≡ [] → xs ≡ []
   nothing_left xs e = sym (reverse-reverse xs) ∙ ap reverse e
 
--- what is true of three lists, one behind another, is true of the second
+-- what holds for three joined lists holds for the second
 middle_of : {A : Type 0} (P : A → Type 0) (xs ys zs : List A) → All P ((xs ++ ys) ++ zs) → All P ys
 middle_of P xs ys zs all = λ k d low.
     let both : length (xs ++ ys) ≡ length xs + length ys = length-append xs ys in
@@ -54,7 +54,7 @@ module _ {J : Type 0} {M : Meaning J} {most : ℕ} {notes : List J} {cuts : List
     pub short : length row_here ≤ most
     short = cut.of.few at [] in_rows
 
-    -- as long as it was cut
+    -- the row has the length that was cut
     pub count : (d : ℕ) → get_or cuts at d ≡ length row_here
     count d = ap (λ (c : List ℕ). get_or c at d) (sym cut.lengths) ∙ get_or-map length cut.rows at [] d in_rows
 
@@ -73,7 +73,7 @@ module _ {J : Type 0} {M : Meaning J} {most : ℕ} {notes : List J} {cuts : List
     first_foot [] d some = absurd (omega (arith, some))
     first_foot (j ∷ js) d some = refl
 
-    -- its first note stands behind those of the cut.rows before it
+    -- the index of its first note is the number of notes in the rows before it
     pub foot_here : (n : ℕ) (j : J) → n ≡ length (notes_in (take at cut.rows)) → j ≡ get_or notes n j
         → M.foot j ≡ row_foot M row_here
     foot_here n j first is =
@@ -90,7 +90,7 @@ module _ {J : Type 0} {M : Meaning J} {most : ℕ} {notes : List J} {cuts : List
         → first + n ≤ length notes
     next_first first n d e is = let many = count d in omega (arith, within, many, e, is)
 
-    -- one foot more
+    -- one more footprint
     pub feet_more : (feet : List Footprint) (first n d : ℕ) (j : J) (f : Footprint)
         → feet ≡ map (row_foot M) (take at cut.rows) → first ≡ length (notes_in (take at cut.rows))
         → j ≡ get_or notes first j
@@ -100,7 +100,7 @@ module _ {J : Type 0} {M : Meaning J} {most : ℕ} {notes : List J} {cuts : List
     feet_more feet first n d j f so_far e is foot_is n_is =
         grind (arith, common_steps, count, foot_here, many, map-append, next_length, next_rows)
 
-    -- one row more
+    -- one more row
     pub rows_more : (filled : List (List J)) (r : List J) → filled ≡ take at cut.rows → r ≡ row_here
         → filled ++ r ∷ [] ≡ take (at + 1) cut.rows
     rows_more filled r so_far is = grind (arith, common_steps, next_rows)
@@ -108,7 +108,7 @@ module _ {J : Type 0} {M : Meaning J} {most : ℕ} {notes : List J} {cuts : List
     pub left_here : notes_in (drop at cut.rows) ≡ row_here ++ notes_in (drop (at + 1) cut.rows)
     left_here = ap notes_in (drop_more cut.rows at [] in_rows)
 
-    -- what is true of the notes is true of its notes
+    -- what holds for all notes holds for the row's notes
     pub row_shapes : (P : J → Type 0) → All P notes → (r : List J) → r ≡ row_here → All P r
     row_shapes P all r same =
         let whole : notes ≡ (notes_in (take at cut.rows) ++ row_here) ++ notes_in (drop (at + 1) cut.rows) =
@@ -123,7 +123,7 @@ module _ {J : Type 0} {M : Meaning J} {most : ℕ} {notes : List J} {cuts : List
     pub longer : length row_here ≤ length (notes_in (drop at cut.rows))
     longer = grind (arith, common_steps, left_here, length-append)
 
-    -- so many of the notes that are left are its notes
+    -- the first of the remaining notes, as many as the row has, are the row's notes
     pub fills : (r rest : List J) (d : ℕ) → length r ≡ get_or cuts at d → r ++ rest ≡ notes_in (drop at cut.rows)
         → AreSameTwo r rest row_here (notes_in (drop (at + 1) cut.rows))
     fills r rest d long e =

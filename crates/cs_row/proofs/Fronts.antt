@@ -1,4 +1,4 @@
--- The front of one list before the rest of another, of the same length; and what is true at a place.
+-- A prefix of one list before the rest of another of the same length; and what holds at an index.
 use Rattle.std.proofs.lemmas.Grind.{common_steps}
 use Rattle.std.proofs.Common.{◌≡◌, ℕ, zero, suc, ◌<◌, List, [], ◌∷◌, ◌++◌, length, take, drop, slice_get, slice_set}
 use Rattle.std.proofs.Common.{Some, refl, ap, get_or, arith, subst}
@@ -6,7 +6,7 @@ use Rattle.std.proofs.lemmas.Option.{get_or_from_slice_get, slice_get-get_or, sl
 use Rattle.std.specs.List.{All}
 
 module _ {A : Type 0} where
-  -- Of two lists of one length: the front of the first before the rest of the second.
+  -- Two lists of the same length: a prefix of the first before the rest of the second.
   pub middle : (ys js : List A) (n : ℕ) → length ys ≡ length js → n < length js
       → slice_get (take n ys ++ drop n js) n ≡ slice_get js n
   middle ys [] n e l = absurd (omega arith)
@@ -36,11 +36,11 @@ module _ {A : Type 0} where
   all_of (y ∷ ys) [] e = absurd (omega (arith, e))
   all_of (y ∷ ys) (j ∷ js) e = ap (λ zs. y ∷ zs) (all_of ys js (omega (arith, e)))
 
-  -- the next of the rest
+  -- the next element of the rest
   pub next_here : (ys js zs : List A) (n : ℕ) (d : A) → length ys ≡ length js → n < length js
       → zs ≡ take n ys ++ drop n js → slice_get js n ≡ Some (get_or zs n d)
   next_here ys js zs n d e l parts = grind (arith, common_steps, middle, middle_below, slice_get-get_or)
 
-  -- what is true of all is true of the one at a place
+  -- what holds for all elements holds for the one at an index
   pub all_at : (P : A → Type 0) (xs : List A) (k : ℕ) (x : A) → All P xs → slice_get xs k ≡ Some x → P x
   all_at P xs k x all at = subst P (get_or_from_slice_get xs k x x at) (all k x (slice_get_within xs k x at))

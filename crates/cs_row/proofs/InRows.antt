@@ -1,4 +1,4 @@
--- In which row each note lies, and which notes conflict.
+-- The row of each note, and which notes conflict.
 use Rattle.std.proofs.lemmas.{Grind.common_steps, List.Elements.All-head, List.Elements.All-tail}
 use Rattle.std.proofs.Common.{◌≡◌, ◌<◌, ◌≤◌, ◌-◌, ◌+◌, ℕ, zero, suc, List, [], ◌∷◌, ◌++◌, length, map, nat_lt, sym, ap}
 use Rattle.std.proofs.Common.{◌∙◌, subst, arith, ⊎_elim}
@@ -11,7 +11,7 @@ use Rattle.cs_row.specs.Laws.{ConflictByRow}
 use Rattle.cs_row.specs.Rows.{IsFree, IsRow, no_foot, notes_in, row_at, row_foot}
 
 module _ {J : Type 0} where
-  -- in the first row, or in one behind it
+  -- a note is in the first row, or in a later one
   here : (row : List J) (rows : List (List J)) (t : ℕ) → t < length row → row_at (row ∷ rows) t ≡ 0
   here row rows t l =
       cond-true (nat_lt t (length row)) 0 (suc (row_at rows (t - length row))) (lt-ltb t (length row) l)
@@ -21,7 +21,7 @@ module _ {J : Type 0} where
   beyond row rows t l =
       cond-false (nat_lt t (length row)) 0 (suc (row_at rows (t - length row))) (le-ltb t (length row) l)
 
-  -- a later note lies in no earlier row
+  -- a later note is in the same row or a later one
   row_order : (rows : List (List J)) (p t : ℕ) → p ≤ t → row_at rows p ≤ row_at rows t
   row_order [] p t l = omega arith
   row_order (row ∷ rows) p t l = ⊎_elim
@@ -57,7 +57,7 @@ module _ {J : Type 0} (M : Meaning J) where
   feet_alike f (j ∷ js) (suc t) all l =
       feet_alike f js t (All-tail (λ (x : J). M.foot x ≡ f) j js all) (omega (arith, l))
 
-  -- the footprint of a note is that of its row
+  -- the footprint of a note is the footprint of its row
   note_foot : (rows : List (List J)) (t : ℕ) → All (IsRow M) rows → t < length (notes_in rows)
       → foot (map M.foot (notes_in rows)) t ≡ foot (map (row_foot M) rows) (row_at rows t)
   note_foot [] t all l = absurd (omega (arith, l))
@@ -81,7 +81,7 @@ module _ {J : Type 0} (M : Meaning J) where
       ∙ ap (foot (map (row_foot M) (row ∷ rows))) (sym (beyond row rows t far)))
       (cases_lt t (length row))
 
-  -- two notes of one row write nothing
+  -- two notes of the same row write nothing
   same_row : (rows : List (List J)) (p t : ℕ) → All (IsFree M) rows → p < t → t < length (notes_in rows)
       → row_at rows p ≡ row_at rows t → (foot (map (row_foot M) rows) (row_at rows t)).writes ≡ []
   same_row [] p t all less l same = absurd (omega (arith, l))

@@ -1,4 +1,4 @@
--- The serial run of rows is that of their notes.
+-- The serial run of rows is the serial run of their notes.
 use Rattle.std.proofs.Common.{arith, ◌≡◌, ℕ, ℤ, List, [], ◌∷◌, ◌++◌, length, map, ◌+ℤ◌, refl, sym, ap, ◌∙◌}
 use Rattle.std.proofs.lemmas.{Grind.common_steps, List.Elements.All-nil, List.map-append}
 use Rattle.std.specs.List.{All}
@@ -11,7 +11,7 @@ use Rattle.cs_row.specs.Heard.{HeardRow, heard_job, sum_at, sums}
 use Rattle.cs_row.specs.{Laws.RunsAsNotes, Laws.all_notes, Laws.jobs_of, Rows.notes_in}
 
 module _ {J : Type 0} (M : Meaning J) where
-  -- of two lists one behind the other
+  -- the serial run of two joined lists
   pub cells_both : (xs ys : List J) (c : Cells)
       → serial_cells M (xs ++ ys) c ≡ serial_cells M ys (serial_cells M xs c)
   cells_both [] ys c = refl
@@ -59,7 +59,7 @@ module _ {J : Type 0} (M : Meaning J) where
     pub runs : (rows : List (HeardRow J)) (c : Cells) → RunsAsNotes M shape gives rows c
     runs rows c = grind (arith, common_steps, blocks_run, cells_run, jobs_run, lengths_run, summed)
 
--- what rows give at a place is what their notes give
+-- the sums of rows at an index are the sums of their notes
 module _ {J : Type 0} (gives : J → ℕ → ℤ) where
   total_both : (xs ys : List ℤ) → total (xs ++ ys) ≡ total xs +ℤ total ys
   total_both [] ys = sym (+ℤ_idl (total ys))

@@ -1,4 +1,4 @@
--- What a job of a row touches, the row touches.
+-- A row touches everything that one of its jobs touches.
 use Rattle.std.proofs.Common.{arith, ℕ, List}
 use Rattle.std.proofs.lemmas.Grind.{common_steps}
 use Rattle.std.specs.List.{All}

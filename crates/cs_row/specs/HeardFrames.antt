@@ -6,12 +6,8 @@ use Rattle.std.proofs.lemmas.List.FromFn.{length-map-range_with_len}
 use Rattle.cs_base.specs.Limits.{most_notes}
 use Rattle.cs_cells.specs.{Cells.Cells, Meaning.Meaning, Meaning.Frames, Serial.serial_jobs}
 use Rattle.cs_cells.proofs.SerialRun.{length-serial_jobs}
-use Rattle.cs_row.specs.Heard.{HeardRow, IsHeardRow, heard_job, sum_at, with_sums}
+use Rattle.cs_row.specs.Heard.{HeardRow, IsHeardRow, KeepsShape, heard_job, sum_at, with_sums}
 use Rattle.cs_row.specs.RowFrames.{row_frames}
-
--- a run leaves the shape of a job
-abbrev pub KeepsShape : {J : Type 0} → Meaning J → (J → ℕ × ℕ) → Type 0
-KeepsShape {J} M shape = (j : J) (c : Cells) → shape (M.after j c) ≡ shape j
 
 module _ {J : Type 0} (M : Meaning J) (shape : J → ℕ × ℕ) (gives : J → ℕ → ℤ) (F : Frames M)
     (keeps : KeepsShape M shape) where

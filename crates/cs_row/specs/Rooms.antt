@@ -3,11 +3,11 @@ use Rattle.std.specs.{Prelude.◌≡◌, Prelude.◌≤◌, Prelude.ℕ, Prelude
 use Rattle.cs_row.specs.declared.row.RowRoom.{RowRoom}
 
 module _ {J : Type 0} where
-  -- without notes, with a block of so many values
+  -- memory without notes, with a block of `block` values
   pub record IsEmptied (block : ℕ) (room : RowRoom J) : Type 0 where
     pub notes : room.notes.items ≡ []
     pub sum : length room.sum.items ≡ block
 
-  -- there is memory for so many notes
+  -- the memory is large enough for `most` notes
   abbrev pub IsWide : ℕ → RowRoom J → Type 0
   IsWide most room = most ≤ vec_capacity room.notes

@@ -1,4 +1,4 @@
--- The frame law of rows: jobs that touch the same, one after another, are a function of what they use.
+-- The frame law of rows: consecutive jobs that touch the same resources are a function of what they use.
 use Rattle.std.proofs.Common.{◌≡◌, ◌<◌, ℕ, List, [], ◌∷◌, ◌||◌, true, refl, sym, ap, ◌∙◌, subst}
 use Rattle.std.specs.List.{All}
 use Rattle.std.proofs.lemmas.List.Elements.{All-cons, All-head, All-tail}
@@ -8,7 +8,7 @@ use Rattle.cs_cells.specs.{declared.footprint.Area.Area, declared.footprint.Foot
 use Rattle.cs_cells.proofs.SerialRun.{length-serial_jobs, length-serial_cells}
 use Rattle.cs_row.specs.Rows.{IsRow, Touches, row_areas, row_foot, row_job}
 
--- what is used and written by whoever touches this
+-- address a is one that a job with this footprint uses or writes
 abbrev UsesHere : List Area → Footprint → ℕ → Type 0
 UsesHere areas foot a = (covers areas foot.uses a || covers areas foot.writes a) ≡ true
 
@@ -17,7 +17,7 @@ WritesHere areas foot a = covers areas foot.writes a ≡ true
 
 module _ {J : Type 0} (M : Meaning J) (F : Frames M) where
   module _ (areas : List Area) (foot : Footprint) where
-    -- one job of them, over cells that agree
+    -- one job, on cells that agree there
     one_job : (j : J) (c d : Cells) → Touches M areas foot j → Agree (UsesHere areas foot) c d
         → M.after j c ≡ M.after j d
     one_job j c d t same = F.job j c d t.valid
@@ -46,7 +46,7 @@ module _ {J : Type 0} (M : Meaning J) (F : Frames M) where
       valid = F.valid_after j c t.valid;
     }
 
-    -- all jobs
+    -- all jobs, on cells that agree there
     all_jobs : (js : List J) (c d : Cells) → All (Touches M areas foot) js → Agree (UsesHere areas foot) c d
         → serial_jobs M js c ≡ serial_jobs M js d
     all_jobs [] c d all same = refl

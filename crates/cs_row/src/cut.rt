@@ -6,8 +6,8 @@ ghost use Rattle.cs_row.specs.Cuts.{IsCut};
 
 use cs_cells::Job;
 
-/// Cuts notes into rows of no more than so many; those of several notes have neighbours that touch the same and write
-/// nothing. `cuts` becomes how many notes each row has.
+/// Cuts notes into rows of at most `most` notes. The notes of a row with several notes follow each other,
+/// touch the same resources and write none. `cuts` becomes the number of notes of each row.
 pub(crate) fn cut_notes<J: Job>(notes: &[J], most: usize, cuts: &mut Vec<usize>)
     requires most { 1 ≤ most }
     requires empty { cuts.old.items ≡ [] }
@@ -21,7 +21,7 @@ pub(crate) fn cut_notes<J: Job>(notes: &[J], most: usize, cuts: &mut Vec<usize>)
     }
 }
 
-/// One note more: it joins the row before it, where it may, or begins one.
+// Takes one more note: it joins the row before it if it may, and otherwise begins a new row.
 fn take_note<J: Job>(notes: &[J], at: usize, most: usize, cuts: &mut Vec<usize>)
     requires within { at < length notes.now }
     requires most { 1 ≤ most }
@@ -41,7 +41,7 @@ fn take_note<J: Job>(notes: &[J], at: usize, most: usize, cuts: &mut Vec<usize>)
     }
 }
 
-/// It does nothing: looks tell what is true of each job that code holds.
+// For the prover: it does nothing as it runs. Each job that code holds is valid.
 fn hear<J: Job>(jobs: &[J])
     ensures { All (λ j. J.means.valid j) jobs.now }
 {
@@ -50,7 +50,7 @@ fn hear<J: Job>(jobs: &[J])
     }
 }
 
-/// Whether two notes may be in one row: they touch the same, and write nothing.
+// Returns whether two notes may be in one row: they touch the same resources, and write none.
 fn go_together<J: Job>(one: &J, next: &J) -> bool
     ensures { result ≡ true → (J.means.foot one.now ≡ J.means.foot next.now) × ((J.means.foot next.now).writes ≡ []) }
 {

@@ -1,20 +1,20 @@
-// What a job gives to be heard.
+// The sound of a job.
 ghost use Rattle.std.specs.Prelude.{◌≡◌, ◌<◌, ◌≤◌, ◌*◌, ℕ, ℤ, length, All};
 ghost use Rattle.cs_base.specs.Limits.{most_notes};
-ghost use Rattle.cs_row.specs.{Heard.AreSumsOf, Heard.sums, HeardFrames.KeepsShape};
+ghost use Rattle.cs_row.specs.Heard.{AreSumsOf, KeepsShape, sums};
 
 use cs_cells::Job;
 
-/// A job that gives a number to each channel at each frame of a cycle.
+/// A job that produces a number for each channel at each frame of a cycle.
 pub trait Heard: Job {
-    /// What it gives at each place of a block, frame by frame, channel beside channel.
+    /// The number at each index of a block: frame by frame, the channels of a frame next to each other.
     ghost gives: { Self → ℕ → ℤ };
 
-    /// How many frames and channels its block has.
+    /// The numbers of frames and channels of its block.
     ghost shape: { Self → ℕ × ℕ };
 
-    /// Writes into the block what jobs of one shape, at most 512, give together: whole numbers without bounds. What the
-    /// block held doesn't matter.
+    /// Writes the sums of what `jobs` produce into the block: integers without bounds. There are from 1 to
+    /// 512 jobs, of one shape. The earlier contents of the block don't matter.
     fn sum(jobs: &[Self], block: &mut [i64])
         requires some { 0 < length jobs.now }
         requires few { length jobs.now ≤ most_notes }
@@ -23,6 +23,6 @@ pub trait Heard: Job {
         ensures sums { block.new ≡ sums gives (length block.old) jobs.now }
         ensures small { AreSumsOf (length jobs.now) block.new };
 
-    // A run leaves the shape.
+    // A run doesn't change the shape.
     ghost keeps: { KeepsShape Self.means shape };
 }

@@ -1,4 +1,4 @@
-// What the run of rows is for their notes.
+// What the run of rows means for their notes.
 ghost use Rattle.std.specs.Prelude.{◌≡◌, ◌<◌, ℕ, List, map, All};
 ghost use Rattle.cs_base.specs.Numbers.{total};
 ghost use Rattle.cs_cells.specs.Cells.{Cells};
@@ -7,8 +7,9 @@ ghost use Rattle.cs_row.specs.Rows.{IsFree, IsRow, notes_in};
 
 use crate::heard::Heard;
 
-/// The laws of rows: their serial run is that of their notes, two notes conflict exactly where their rows do, and what
-/// rows give is what their notes give. It does nothing: its clauses are the laws.
+/// The laws of rows: their serial run is the run of their notes, two notes conflict if and only if their rows
+/// do, and the sums of rows are the sums of what their notes produce. For the prover: it does nothing as it
+/// runs; its clauses are the laws.
 pub fn row_laws<J: Heard>()
     ensures run { (rows : List (HeardRow J)) (c : Cells) → RunsAsNotes J.Job.means J.shape J.gives rows c }
     ensures conflicts { (rows : List (List J)) (p t : ℕ) → All (IsRow J.Job.means) rows

@@ -1,12 +1,12 @@
-//! Notes of a cycle that follow one another and touch the same, run as one job of the board: one claim serves them all,
-//! and what they give is summed where they ran.
+//! Consecutive notes of a cycle that touch the same resources, run as one job of the board: they are claimed
+//! together, and the thread that runs them adds up their samples.
 //!
-//! The one contract: a `Row` is a `Job`, whose run is the serial run of its notes. `row_laws` says that the run of rows
-//! is that of their notes, and that two notes conflict exactly where their rows do, so that whatever is promised of
-//! rows is promised of notes.
+//! The one contract: a `Row` is a `Job`, whose run is the serial run of its notes. `row_laws` states that the
+//! run of rows is the run of their notes, and that two notes conflict if and only if their rows do; so every
+//! promise about rows is also one about notes.
 //!
-//! In reading order: `heard` (what is summed), `order` (jobs that run one after another), `row`, `cut` (which notes
-//! make a row), `rows` (what is kept from cycle to cycle), `memory`, `sums`, `laws`.
+//! In reading order: `heard` (what is summed), `order` (jobs that run one after another), `row`, `cut` (which
+//! notes make a row), `rows` (what is reused from cycle to cycle), `memory`, `sums`, `laws`.
 #![tactic(auto)]
 
 mod cut;

@@ -1,4 +1,4 @@
-// The memory of rows, their filling and emptying.
+// The memory of rows; filling and emptying them.
 ghost use Rattle.std.specs.Prelude.{◌≡◌, ◌≤◌, ◌<◌, ◌+◌, ◌-◌, ◌++◌, ℕ, [], length, take, map, reverse, All, OnOk};
 ghost use Rattle.std.specs.Vec.{vec_len, vec_capacity};
 ghost use Rattle.cs_row.specs.{Cuts.AreFilling, Cuts.AreRowsOf, Cuts.IsCut, Kept.CutAlike, Kept.HasMemory};
@@ -12,7 +12,7 @@ use std::alloc::{AllocError, Global};
 use std::mem;
 
 impl<'g, J: Heard + Drop, G> Rows<'g, J, G> {
-    /// Takes what memory the rows lack that were cut.
+    /// Allocates the memory that the cut rows still lack.
     pub fn take_memory(&mut self, alloc: Global) -> Result<(), OutOfMemory>
         ensures memory { OnOk result (HasMemory self.new) }
         ensures same { CutAlike self.new self.old }
@@ -24,8 +24,8 @@ impl<'g, J: Heard + Drop, G> Rows<'g, J, G> {
         Ok(())
     }
 
-    /// The notes in their rows, as they were cut; `notes` is emptied. The gate is called before each note with the
-    /// cycle and the note's place.
+    /// Returns the notes in rows, the way they were cut; `notes` is emptied. The gate is called before each
+    /// note with the cycle and the note's index.
     pub fn fill(&mut self, notes: &mut Vec<J>, gate: &'g G, cycle: u32) -> Vec<Row<'g, J, G>>
         requires notes { IsFillable J.Job.means J.shape self.old notes.old.items }
         requires memory { HasMemory self.old }
@@ -41,8 +41,8 @@ impl<'g, J: Heard + Drop, G> Rows<'g, J, G> {
         rows
     }
 
-    /// The notes of rows behind those in `notes`, where there is room for them. The memory of the rows is kept, unless
-    /// there is none to keep it in.
+    /// Appends the notes of rows to `notes`, which has room for them. The memory of the rows is stored again,
+    /// unless memory for storing it runs out.
     pub fn empty(&mut self, mut rows: Vec<Row<'g, J, G>>, notes: &mut Vec<J>)
         requires sums { All (λ r. length r.sum ≡ self.old.block) rows.items }
         requires room { length notes.old.items + length (all_notes rows.items) ≤ vec_capacity notes.old }
@@ -54,7 +54,7 @@ impl<'g, J: Heard + Drop, G> Rows<'g, J, G> {
     }
 }
 
-/// Each of these is made to have memory for so many notes.
+// Reserves memory for `most` notes in each of these rooms.
 fn widen<J: Drop>(rooms: &mut [RowRoom<J>], most: usize) -> Result<(), AllocError>
     requires empty { All (λ room. room.notes.items ≡ []) rooms.old }
     ensures wide { OnOk result (All (IsWide most) rooms.new) }
@@ -67,7 +67,7 @@ fn widen<J: Drop>(rooms: &mut [RowRoom<J>], most: usize) -> Result<(), AllocErro
     Ok(())
 }
 
-/// There come as many as `count`, each with memory for so many notes.
+// Appends rooms until there are `count`, each with memory for `most` notes.
 fn add_rooms<J: Drop>(
     alloc: Global,
     rooms: &mut Vec<RowRoom<J>>,
@@ -87,7 +87,7 @@ fn add_rooms<J: Drop>(
     Ok(())
 }
 
-/// The notes come in rows of these lengths.
+// Fills rows with the notes; `cuts` has the number of notes of each row.
 fn fill_rows<'g, J: Heard, G>(
     rooms: &mut Vec<RowRoom<J>>,
     cuts: &[usize],
@@ -117,7 +117,7 @@ fn fill_rows<'g, J: Heard, G>(
     }
 }
 
-/// The last of these, with the last notes, so many, the last one first.
+// Returns the last room, filled with the last `count` notes, the last one first.
 fn take_room<J>(rooms: &mut Vec<RowRoom<J>>, notes: &mut Vec<J>, count: usize) -> RowRoom<J>
     requires some { 0 < length rooms.old.items }
     requires empty { All (λ room. (room.notes.items ≡ []) × (count ≤ vec_capacity room.notes)) rooms.old.items }
@@ -140,8 +140,7 @@ fn take_room<J>(rooms: &mut Vec<RowRoom<J>>, notes: &mut Vec<J>, count: usize) -
     room
 }
 
-/// The notes of rows come behind those in `notes`, and their memory to that in `rooms`, unless there is no place for
-/// it.
+// Appends the notes of rows to `notes`, and their memory to `rooms`, unless memory for storing it runs out.
 fn empty_rows<'g, J: Heard + Drop, G>(
     rows: &mut Vec<Row<'g, J, G>>,
     rooms: &mut Vec<RowRoom<J>>,

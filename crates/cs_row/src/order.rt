@@ -6,8 +6,8 @@ ghost use Rattle.cs_cells.specs.Serial.{serial_cells, serial_jobs};
 use cs_cells::{Bank, Job};
 use cs_edge::Gate;
 
-/// Runs jobs one by one in their order over the cells of a bank. `gate` is called before each, with `cycle` and with
-/// its place, of which the first job's is `first`.
+/// Runs jobs one by one in their order on the cells of a bank. `gate` is called before each one with `cycle`
+/// and the job's index in the cycle; `first` is the index of the first job.
 pub fn run_in_order<J: Job, B: Bank, G: Gate>(
     jobs: &mut [J],
     bank: &mut B,

@@ -1,4 +1,4 @@
-// Notes that follow one another and touch the same, as one job.
+// Consecutive notes that touch the same resources, as one job.
 ghost use Rattle.std.specs.Prelude.{◌≡◌, ◌+◌, ◌<◌, ◌≤◌, ◌*◌, ◌^◌, ◌++◌, ℕ, [], length, All, IfOk};
 ghost use Rattle.std.specs.Vec.{vec_len, vec_capacity};
 ghost use Rattle.cs_base.specs.Limits.{most_notes};
@@ -14,8 +14,8 @@ use cs_edge::Gate;
 use std::alloc::{AllocError, Global};
 use std::marker::Model;
 
-/// The memory of a row: its notes, and the block for what they give together, with a number for each channel of each
-/// frame.
+/// The memory of a row: its notes, and the block for the sum of what they produce, with a number for each
+/// channel of each frame.
 #[derive(Drop)]
 pub struct RowRoom<J> {
     pub notes: Vec<J>,
@@ -23,7 +23,7 @@ pub struct RowRoom<J> {
 }
 
 impl<J: Drop> RowRoom<J> {
-    /// Memory for so many notes, with a block of so many zeros.
+    /// Allocates memory for `notes` notes, with a block of `block` zeros.
     pub(crate) fn new(alloc: Global, notes: usize, block: usize) -> Result<RowRoom<J>, AllocError>
         ensures { IfOk result (λ room. IsEmptied block room × (notes ≤ vec_capacity room.notes)) }
     {
@@ -33,8 +33,8 @@ impl<J: Drop> RowRoom<J> {
     }
 }
 
-/// A row of notes: a job that runs them in their order, calls the gate before each, and sums what they give. Contracts
-/// see the notes and the sum.
+/// A row of notes: a job that runs them in their order, calls the gate before each, and adds up what they
+/// produce. Contracts see the notes and the sum.
 #[derive(Drop)]
 pub struct Row<'g, J: Heard, G> {
     room: RowRoom<J>,
@@ -56,8 +56,8 @@ impl<'g, J: Heard, G> Model for Row<'g, J, G> {
 }
 
 impl<'g, J: Heard, G> Row<'g, J, G> {
-    /// The row of the notes in `room`, of which the first has the place `first` in the serial order of the cycle. What
-    /// its block holds doesn't matter: it becomes zeros.
+    /// Makes a row of the notes in `room`; the index of the first one in the serial order of the cycle is
+    /// `first`. The earlier contents of the block don't matter: it becomes zeros.
     pub fn new(mut room: RowRoom<J>, gate: &'g G, cycle: u32, first: u32) -> Row<'g, J, G>
         requires row { IsRow J.Job.means room.notes.items }
         requires few { (length room.notes.items ≤ most_notes) × (first + length room.notes.items < 2 ^ 32) }
@@ -74,7 +74,7 @@ impl<'g, J: Heard, G> Row<'g, J, G> {
         }
     }
 
-    /// What its notes give together, once they have run.
+    /// Returns the sum of what its notes produce, after they have run.
     pub fn sum(&self) -> &[i64]
         ensures sum { result.now ≡ self.now.sum }
         ensures small { AreSumsOf (length self.now.jobs) result.now }
@@ -82,14 +82,14 @@ impl<'g, J: Heard, G> Row<'g, J, G> {
         &self.room.sum
     }
 
-    /// The number of its notes.
+    /// Returns the number of its notes.
     pub fn len(&self) -> usize
         ensures { result ≡ length self.now.jobs }
     {
         self.room.notes.len()
     }
 
-    /// Its notes come behind those in `notes`, where there is room for them. Returns its memory, without notes.
+    /// Appends its notes to `notes`, which has room for them. Returns the memory of the row, without notes.
     pub fn empty_into(self, notes: &mut Vec<J>) -> RowRoom<J>
         requires room { vec_len notes.old + length self.jobs ≤ vec_capacity notes.old }
         ensures notes { notes.new.items ≡ notes.old.items ++ self.entry.jobs }
@@ -121,7 +121,8 @@ impl<'g, J: Heard, G: Gate> Job for Row<'g, J, G> {
     ghost frames = { heard_frames J.Job.means J.shape J.gives J.Job.frames J.keeps };
 }
 
-/// Runs notes that touch the same in their order, and writes what they give together into the block.
+// Runs notes that touch the same resources in their order, and writes the sum of what they produce into the
+// block.
 fn run_and_sum<J: Heard, B: Bank, G: Gate>(
     notes: &mut [J],
     sum: &mut [i64],

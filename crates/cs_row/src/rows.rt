@@ -11,28 +11,29 @@ use cs_base::OutOfMemory;
 use cs_cells::Footprint;
 use std::alloc::{AllocError, Global};
 
-/// How many rows of notes that may run in any order there are at least for each worker, where there are so many notes:
-/// whoever is done early finds another.
+// The lowest number of rows for each worker, if the notes may run in any order and there are enough of them:
+// a worker that finishes early finds another row.
 const ROWS_A_WORKER: usize = 4;
 
-/// How the notes of a cycle are cut into rows, and the memory of the rows, which is kept from cycle to cycle.
+/// How the notes of a cycle are cut into rows, and the memory of the rows, which is reused from cycle to
+/// cycle.
 #[derive(Drop)]
 pub struct Rows<'g, J: Heard, G> {
-    /// The number of values of a sum.
+    /// The number of values in the sum of a row.
     pub(crate) block: usize,
-    /// How many notes a row may have.
+    /// The highest number of notes in a row.
     pub(crate) most: usize,
-    /// How many notes each row has, in serial order.
+    /// The number of notes of each row, in serial order.
     pub(crate) cuts: Vec<usize>,
-    /// Without notes.
+    /// Memory for rows, without notes.
     pub(crate) rooms: Vec<RowRoom<J>>,
-    /// Without rows.
+    /// An empty vector with room for rows.
     pub(crate) rows: Vec<Row<'g, J, G>>,
     ghost empty: { All (λ room. IsEmptied block room) rooms.items × (rows.items ≡ []) },
 }
 
 impl<'g, J: Heard + Drop, G> Rows<'g, J, G> {
-    /// No notes are cut, and no memory is taken. `block` is the number of values of a sum.
+    /// Makes an empty `Rows`; allocates nothing. `block` is the number of values in the sum of a row.
     pub fn new(alloc: Global, block: usize) -> Rows<'g, J, G>
         ensures { (result.block ≡ block) × (result.cuts.items ≡ []) }
     {
@@ -45,8 +46,8 @@ impl<'g, J: Heard + Drop, G> Rows<'g, J, G> {
         }
     }
 
-    /// Cuts notes into rows for so many workers. A row of several notes has neighbours that touch the same and write
-    /// nothing, no more than a fourth of a worker's share of the notes.
+    /// Cuts notes into rows for `workers` workers. The notes of a row with several notes follow each other,
+    /// touch the same resources and write none; there are at most a fourth of a worker's share of all notes.
     pub fn cut(&mut self, notes: &[J], workers: u32) -> Result<(), OutOfMemory>
         requires workers { 1 ≤ workers }
         requires few { length notes.now ≤ most_notes }
@@ -62,7 +63,7 @@ impl<'g, J: Heard + Drop, G> Rows<'g, J, G> {
         Ok(())
     }
 
-    /// Copies of the footprints of the rows that were cut of these notes.
+    /// Returns copies of the footprints of the rows that were cut from these notes.
     pub fn feet(&self, alloc: Global, notes: &[J]) -> Result<Vec<Footprint>, AllocError>
         requires few { length notes.now ≤ most_notes }
         requires cut { IsCut J.Job.means self.now.most notes.now self.now.cuts.items }

@@ -1,4 +1,4 @@
-// What the notes of a cycle give together, from the sums of their rows.
+// What all notes of a cycle produce together, from the sums of their rows.
 ghost use Rattle.std.specs.Prelude.{◌≡◌, ◌≤◌, ◌<◌, ◌+◌, ◌+ℤ◌, ℕ, pos, slice_index_or, length, map, All};
 ghost use Rattle.cs_base.specs.{Limits.most_notes, Numbers.total};
 ghost use Rattle.cs_row.specs.{Heard.AreSumsOf, Heard.IsSumOf, Laws.all_notes};
@@ -6,7 +6,8 @@ ghost use Rattle.cs_row.specs.{Heard.AreSumsOf, Heard.IsSumOf, Laws.all_notes};
 use crate::heard::Heard;
 use crate::row::Row;
 
-/// Writes the sums of rows into the block, added up: what the rows' notes give together, where they have run.
+/// Adds up the sums of the rows and writes the result into the block: the sum of what the rows' notes
+/// produce, if they have run.
 pub fn sum_rows<'g, J: Heard, G>(rows: &[Row<'g, J, G>], block: &mut [i64])
     requires few { length (all_notes rows.now) ≤ most_notes }
     requires long { All (λ r. length r.sum ≡ length block.old) rows.now }
@@ -20,7 +21,7 @@ pub fn sum_rows<'g, J: Heard, G>(rows: &[Row<'g, J, G>], block: &mut [i64])
     }
 }
 
-/// Adds a sum of some notes to one of others.
+// Adds the sum of some notes to the sum of other notes in `block`.
 fn add_sum(sum: &[i64], block: &mut [i64])
     requires long { length sum.now ≡ length block.old }
     requires small { (n : ℕ) × (m : ℕ) × AreSumsOf n sum.now × AreSumsOf m block.old × (n + m ≤ most_notes) }

@@ -6,6 +6,7 @@ use Rattle.cs_board.specs.{declared.view.Berth.Berth, declared.view.Doing.Doing,
 use Rattle.cs_cells.specs.{Access.Access, Meaning.Meaning}
 use Rattle.cs_board.specs.Plans.{IsPlan, uses_at, writes_at}
 
+-- what the view does, without its image
 abbrev pub bare : Option Doing → Option Doing
 bare None = None
 bare (Some d) = Some (record d { image = [] })
@@ -15,7 +16,8 @@ module _ {J : Type 0} where
   abbrev pub imageless : View J → View J
   imageless v = record v { doing = bare v.doing }
 
--- What no look and no set changes: the board, and all of the seat but the values in the image.
+-- What reading and setting cells doesn't change: the board, and everything in the seat except the values of
+-- the image.
 pub record Frame (J : Type 0) : Type 0 where
   pub name : ℕ
   pub board : Board J
@@ -26,6 +28,7 @@ pub record Frame (J : Type 0) : Type 0 where
   pub count : ℕ
 
 module _ {J : Type 0} where
+  -- the frame of a call with this board and this seat
   abbrev pub frame_of : Board J → Seat (Berth J) (View J) → ℕ → Frame J
   frame_of board sitting name = record {
     name = name;
@@ -38,7 +41,7 @@ module _ {J : Type 0} where
   }
 
 module _ {J : Type 0} (M : Meaning J) where
-  -- the seat of the board does a note
+  -- the seat belongs to the board and is running a note
   pub record IsAtWork (r : Frame J) : Type 0 where
     pub whole : IsPlan M (plan r.board)
     pub table : r.table_id ≡ r.board.frame.table.shared.table_id
@@ -50,7 +53,7 @@ module _ {J : Type 0} (M : Meaning J) where
     pub works : IsAtWork r
     pub uses : uses_at M (plan r.board) (deed r.view).note a ≡ true
 
-  -- the note, which has not run yet, writes the cell
+  -- the note writes the cell and has not run yet
   pub record CanSet (r : Frame J) (a : ℕ) : Type 0 where
     pub works : IsAtWork r
     pub held : (deed r.view).held ≡ true

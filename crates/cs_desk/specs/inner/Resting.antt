@@ -1,5 +1,6 @@
--- A board that rests between two cycles: what is cleared, and what is cleared away after a cycle. k is the plan of the
--- cycle that begins or has ended, w what is known of the board; t is a note, r the place of a resource.
+-- A board that rests between two cycles: what is vacant, and what is cleared after a cycle. k is the plan of
+-- the cycle that begins or has ended, w what is known about the board; t is a note, r the index of a
+-- resource.
 use Rattle.std.specs.Prelude.{◌≡◌, ℕ, ◌+◌, ◌-◌, ◌<◌, ◌≤◌, ◌⊎◌, List, [], ◌∷◌, ◌++◌, drop, length, Bool, true, false}
 use Rattle.std.specs.Prelude.{Option, Some, None}
 use Rattle.atomic_table.specs.{Seated.TableId, declared.shared.Seat.Seat}
@@ -22,11 +23,11 @@ module _ {J : Type 0} where
   all_vacant (Some (Full j) ∷ homes) = false
   all_vacant (Some (Told g) ∷ homes) = false
 
-  -- the words behind cells and turns
+  -- the words after the cells and turns
   abbrev pub others_laid : List Area → Still J → List ℕ
   others_laid areas w = drop (1 + (word_count areas + length areas)) w.words
 
-  -- no turn is made, and each slot is vacant
+  -- no turn is counted, and each slot is vacant
   pub record IsCleared (areas : List Area) (words_made slots_made : ℕ) (w : Still J) : Type 0 where
     pub words : w.words ≡ 0 ∷ cells_laid areas w ++ (each_below (λ r. 0) (length areas) ++ others_laid areas w)
     pub long : length (cells_laid areas w) ≡ word_count areas
@@ -34,7 +35,7 @@ module _ {J : Type 0} where
     pub vacant : all_vacant w.homes ≡ true
     pub slots : length w.homes ≡ slots_made
 
-  -- the seat of a desk, with the numbers that the desk keeps
+  -- the seat of a desk, with the counts that the desk stores
   pub record IsResting (areas_made cells_made : ℕ) (id : TableId) (seat : Seat (Berth J) (View J)) : Type 0 where
     pub sole : IsSole id seat
     pub laid : IsLaid (areas_in seat)
@@ -43,7 +44,7 @@ module _ {J : Type 0} where
     pub cells : word_count (areas_in seat) ≡ cells_made
     pub cleared : IsCleared (areas_in seat) id.words id.slots (known_in seat)
 
-  -- the plan of a cycle of these jobs, over a board of which w is known
+  -- the plan of a cycle of these jobs, on a board about which w is known
   abbrev pub plan_over : List Area → Still J → Dependencies → List J → Plan J
   plan_over areas w graph jobs = record {
     notes = length jobs;
@@ -54,8 +55,8 @@ module _ {J : Type 0} where
     spare = length w.words - wide areas (length jobs) (length graph.edges);
   }
 
-  -- of the turn words of these resources, all but those of `left` are 0 now, and nothing else has changed that was 0 or
-  -- is no turn word
+  -- the turn words of the resources `all` without `left` are 0 now; nothing else that was 0 or isn't a turn
+  -- word has changed
   pub record ClearsTurns (k : Plan J) (all left : List ℕ) (w w' : Still J) : Type 0 where
     pub homes : w'.homes ≡ w.homes
     pub words : (p : Words) → IsSized k p → w.words ≡ all_words p
@@ -64,7 +65,7 @@ module _ {J : Type 0} where
         × ((r : ℕ) → listed all r ≡ true → (at turns r ≡ 0) ⊎ (listed left r ≡ true))
 
 module _ {J : Type 0} (M : Meaning J) where
-  -- the jobs below t are taken out of their slots, and no turn is left but those of later notes
+  -- the jobs below t are taken out of their slots, and only turns of later notes are left
   pub record IsClearing (k : Plan J) (t : ℕ) (w : Still J) : Type 0 where
     pub parts : Words
     pub words : w.words ≡ all_words parts

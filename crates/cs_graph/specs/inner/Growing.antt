@@ -1,4 +1,4 @@
--- A graph that is built so far, for the first notes of a list of footprints.
+-- A graph under construction, for the first notes of a list of footprints.
 use Rattle.cs_base.specs.Limits.{most_notes}
 use Rattle.std.specs.Prelude.{◌≡◌, ℕ, ◌+◌, ◌*◌, ◌<◌, ◌≤◌, ◌↔◌, ◌⊎◌, true, List, length, slice_index}
 use Rattle.std.specs.List.{All, AllPairs}
@@ -8,7 +8,7 @@ use Rattle.cs_graph.specs.{Graph.Edge, Graph.ComesBefore, inner.Nearest.known_at
 use Rattle.cs_graph.specs.{inner.Touched.IsTouchedBy, declared.nearest.Known.Known, declared.growing.Growing.Growing}
 use Rattle.cs_graph.specs.inner.Index.{HasEdge, AreInto, range_at}
 
--- what is known of each of the first n notes
+-- for each of the first n notes, the stored earlier notes and the level are correct
 pub record IsKnown (feet : List Footprint) (n : ℕ) (known : List Known) : Type 0 where
   pub long : length known ≡ n
   pub leads : (p q : ℕ) → q < n → LeadsIn known p q ↔ Leads feet p q
@@ -17,13 +17,13 @@ pub record IsKnown (feet : List Footprint) (n : ℕ) (known : List Known) : Type
   pub greatest : (q : ℕ) → q < n → 0 < (known_at known q).level
       → (p : ℕ) × Conflict feet p q × ((known_at known q).level ≡ (known_at known p).level + 1)
 
--- the edges into the first n notes: the nearest conflicts, and for each other conflict a longer way
+-- the edges into the first n notes are the nearest conflicts, and every other conflict has a longer chain
 pub record IsDrawn (feet : List Footprint) (n : ℕ) (edges : List (ℕ × ℕ)) : Type 0 where
   pub each : (p t : ℕ) → HasEdge edges p t → (t < n) × Near feet p t
   pub near : (p t : ℕ) → t < n → Near feet p t → HasEdge edges p t
   pub rest : (p t : ℕ) → t < n → Conflict feet p t → HasEdge edges p t ⊎ ((q : ℕ) × Leads feet p q × Conflict feet q t)
 
--- behind the old edges stand those to note t from the notes of a set below p
+-- the old edges are followed by the edges to note t from the members of the set below p
 pub record AreDrawnTo (old : List (ℕ × ℕ)) (near : List ℕ) (t p : ℕ) (edges : List (ℕ × ℕ)) : Type 0 where
   pub ends : (a b : ℕ) → HasEdge edges a b ↔ (HasEdge old a b ⊎ ((b ≡ t) × (a < p) × (has near a ≡ true)))
   pub kept : (e a b : ℕ) → Edge old e a b → Edge edges e a b
@@ -33,6 +33,7 @@ pub record AreDrawnTo (old : List (ℕ × ℕ)) (near : List ℕ) (t p : ℕ) (e
   pub long : length old ≤ length edges
   pub few : length edges ≤ length old + p
 
+-- the data of the graph under construction are correct for the first n notes
 pub record IsGrown (feet : List Footprint) (n : ℕ) (growing : Growing) : Type 0 where
   pub touched : IsTouchedBy feet n growing.by_place
   pub known : IsKnown feet n growing.known.items

@@ -1,4 +1,4 @@
--- How all that is kept of a performance stands.
+-- The state of a performance from cycle to cycle.
 use Rattle.std.specs.Prelude.{ℕ, ◌≡◌, ◌*◌, ℤ, [], ◌∷◌, ◌++◌, List, length, map, true}
 use Rattle.cs_piece_meaning.specs.Course.{begins, moment_at, performed, turned_off}
 use Rattle.cs_piece_meaning.specs.{Heard.mix_in, Moments.Composition, Moments.Moment}
@@ -13,7 +13,8 @@ use Rattle.cs_perform.specs.Counted.{AreHeardIn, CountsOn, Receipts}
 use Rattle.cs_perform.specs.{Performances.if_told, declared.order.Performance.Performance}
 use Rattle.cs_perform.specs.declared.stand.Stand.{Stand}
 
--- voices are cut into rows of these lengths, of no more than `most`, and these are the footprints of the rows
+-- voices are cut into rows with these numbers of notes, at most `most` each, and these are the footprints of
+-- the rows
 pub record IsInRows (voices : List VoiceData) (most : ℕ) (cuts : List ℕ) (feet : List Footprint) : Type 0 where
   pub rows : List (List VoiceData)
   pub of : AreRowsOf voice_job most voices rows
@@ -21,18 +22,18 @@ pub record IsInRows (voices : List VoiceData) (most : ℕ) (cuts : List ℕ) (fe
   pub feet_are : map (row_foot voice_job) rows ≡ feet
 
 module _ {G : Type 0} where
-  -- the rows are those of the notes that play, and the course is that of the rows
+  -- the rows contain the notes that play, and the course is the rows' course
   abbrev pub InRows : Stand G → Type 0
   InRows stand = IsInRows stand.voices.items stand.rows.most (cuts stand.rows) stand.course.feet.items
 
-  -- and there is memory for the rows, and room for their cycle
+  -- the rows contain the notes that play, there is memory for them, and room for their cycle
   pub record IsReady (stand : Stand G) : Type 0 where
     pub rows : InRows stand
     pub memory : HasMemory stand.rows
     pub room : HasRoom stand.desk (length (cuts stand.rows)) (length stand.course.graph.value.edges)
 
-  -- What is kept stands at a moment of a setup's performance. The rows are those of the notes that play, and the course
-  -- is that of the rows, unless notes have begun or left since they were.
+  -- The state represents a moment of a setup's performance. Unless notes have begun or left since they were
+  -- cut, the rows contain the notes that play, and the course is the rows' course.
   pub record IsAt (s : SetupData) (stand : Stand G) (m : Moment) : Type 0 where
     pub setup : stand.life.setup.now ≡ s
     pub stands : StandsFor (composition_of s) stand.life stand.voices.items (cells stand.desk) m
@@ -42,14 +43,14 @@ module _ {G : Type 0} where
     pub turns : IsCourseOf stand.turns.feet.items stand.turns
     pub current : stand.current ≡ true → InRows stand
 
--- a cycle more was counted, by the voices that were heard in it
+-- one more cycle was counted, by the voices that were heard in it
 pub record CountsCycle {C : Type 0} (has_counted : C → Receipts → Type 0) (c : Composition) (n : ℕ)
     (before now : C) : Type 0 where
   pub voices : List VoiceData
   pub heard : AreHeardIn c n voices
   pub counted : CountsOn has_counted before now (voices ∷ [])
 
--- The notes of a cycle begin, and their line of turns is added, where it is told.
+-- The notes of a cycle begin, and their line of turns is appended if the report has such lines.
 pub record BeginsNotes {S : Type 0} (is_at : SetupData → S → Moment → Type 0) (performance : Performance) (n : ℕ)
     (old now : S) (before after : List ℕ) : Type 0 where
   pub begun : (m : Moment) → is_at performance.setup.now old m
@@ -58,8 +59,8 @@ pub record BeginsNotes {S : Type 0} (is_at : SetupData → S → Moment → Type
       → let c = composition_of performance.setup.now in
       after ≡ before ++ if_told performance.order.turns (line_of n (turns_in c (begins c n m).active))
 
--- The notes that have begun perform a cycle and leave: what is kept stands after it, the cycle was counted, and the
--- block has what they give together.
+-- The notes that have begun perform a cycle, and those that were turned off leave: the state represents the
+-- moment after it, the cycle was counted, and the block has the sum of the notes.
 pub record RunsNotes {S C : Type 0} (is_at : SetupData → S → Moment → Type 0) (has_counted : C → Receipts → Type 0)
     (old now : S) (before after : C) (block : List ℤ) : Type 0 where
   pub ended : (s : SetupData) (m : Moment) → is_at s old m → is_at s now (turned_off (performed (composition_of s) m))

@@ -1,5 +1,5 @@
--- The rule of a mailbox: what holds between any two steps of its two ends, whatever the interleaving.
--- M is what jobs mean, w the mailbox's word, h what lies in its slot (none while the slot is out with an end), c and d
+-- The rule of a mailbox: the invariant between any two steps of its two ends, whatever the interleaving. M is
+-- what jobs mean, w the mailbox's word, h the content of its slot (none while an end has taken it), c and d
 -- what the caller and the helper know, e what is out, s the state of the mailbox.
 use Rattle.std.specs.Prelude.{◌≡◌, ◌≢◌, ◌⊎◌, ℕ, [], ◌∷◌, Some, None, MatchOption}
 use mathlib.Core.Option.{some, none}
@@ -15,13 +15,13 @@ use mathlib.Core.Option as maybe
 use Rattle.cs_pool.specs.declared.letter.MailboxLetter.TheVariants as letter
 
 module _ {J : Type 0} where
-  -- the view of a mailbox's first end: it is being made
+  -- the view of the first end of a mailbox that is being made
   abbrev pub beginning : Role → Knows J
   beginning r = record { role = r; out = None; tasks = no_tasks }
 
 module _ {J : Type 0} (M : Meaning J) where
-  -- The task lies in the slot, and nobody has begun it: its seat and its board are those that are out, and the seat
-  -- owes nothing.
+  -- The task is in the slot, and the helper hasn't begun it: its seat and its board are those that are out,
+  -- and the seat owes nothing.
   pub record IsGiven (w : ℕ) (h : maybe.Option (MailboxLetter J)) (e : Errand J) : Type 0 where
     pub word : w ≡ GIVEN
     pub task : Task J
@@ -29,12 +29,12 @@ module _ {J : Type 0} (M : Meaning J) where
     pub same : errand_of task ≡ e
     pub ready : IsDone M e.board e.seat
 
-  -- The helper has taken the task, and the slot with it.
+  -- The helper has taken the task out of the slot.
   pub record IsTaken (w : ℕ) (h : maybe.Option (MailboxLetter J)) : Type 0 where
     pub word : w ≡ TAKEN
     pub home : h ≡ none
 
-  -- The answer lies in the slot: it is the seat that is out, after its work.
+  -- The answer is in the slot: it is the seat that is out, after its work.
   pub record IsBack (w : ℕ) (h : maybe.Option (MailboxLetter J)) (e : Errand J) : Type 0 where
     pub word : w ≡ BACK
     pub answer : BoardSeat J
@@ -46,15 +46,16 @@ module _ {J : Type 0} (M : Meaning J) where
     pub word : (w ≡ EMPTY) ⊎ (w ≡ OVER)
     pub home : h ≡ none
 
-  -- What is out was given, and then taken, and then brought back.
+  -- What is out was given, or then taken, or then brought back.
   abbrev pub IsAbroad : ℕ → maybe.Option (MailboxLetter J) → Errand J → Type 0
   IsAbroad w h e = IsGiven w h e ⊎ (IsTaken w h ⊎ IsBack w h e)
 
+  -- What is out, the word and the slot agree with the views of the two ends.
   pub record Facts (w : ℕ) (h : maybe.Option (MailboxLetter J)) (c d : Knows J) : Type 0 where
     pub roles : (c.role ≡ Caller) × (d.role ≡ Helper)
-    -- the word is GIVEN, TAKEN or BACK exactly where the caller knows of a seat that is out
+    -- the word is GIVEN, TAKEN or BACK if and only if the caller knows of a seat that is out
     pub out : MatchOption c.out (IsHome w h) (IsAbroad w h)
-    -- the word is TAKEN exactly where the helper is on duty, and it is on duty with what is out
+    -- the word is TAKEN if and only if the helper works at a seat, and this is the seat that is out
     pub duty : MatchOption d.out (w ≢ TAKEN) (λ e. (w ≡ TAKEN) × (c.out ≡ Some e))
 
   -- The mailbox has its two ends.
@@ -69,7 +70,7 @@ module _ {J : Type 0} (M : Meaning J) where
     pub facts : Facts word home caller helper
 
 module _ {J : Type 0} where
-  -- The mailbox has one end so far, and its slot is at home, or with that end.
+  -- The mailbox has one end so far, and the content of its slot is there, or with that end.
   pub record IsBegun (r : Role) (h : maybe.Option (MailboxLetter J)) (s : State (MailboxLetter J) (Knows J)) : Type
       0 where
     pub words : s.words ≡ EMPTY ∷ []

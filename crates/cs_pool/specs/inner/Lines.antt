@@ -1,4 +1,4 @@
--- What the caller knows of a helper.
+-- What the caller knows about a helper.
 use Rattle.std.specs.Prelude.{◌≡◌, ◌<◌, ◌≤◌, ◌+◌, ℕ, false}
 use Rattle.std.specs.Arc.{arc_value}
 use Rattle.cs_board.specs.{Board.view, declared.board.Board.Board, declared.board.BoardSeat.BoardSeat}
@@ -7,7 +7,7 @@ use Rattle.cs_pool.specs.{Mailboxes.HasNothingOut, Mailboxes.HasOut, Mailboxes.H
 use Rattle.cs_pool.specs.{Mailboxes.given, Mailboxes.served, Numbered.IsFirst, Working.IsReady}
 
 module _ {J : Type 0} where
-  -- the helper has nothing that is the caller's
+  -- the helper has nothing of the caller's
   abbrev pub IsIdle : Line J → Type 0
   IsIdle line = HasNothingOut (arc_value line.mailbox) line.end
 
@@ -15,7 +15,7 @@ module _ {J : Type 0} where
   abbrev pub IsLent : Line J → Board J → BoardSeat J → Type 0
   IsLent line board seat = HasOut (arc_value line.mailbox) line.end board seat
 
-  -- something is out
+  -- some seat is out
   abbrev pub IsBusy : Line J → Type 0
   IsBusy line = HasSomethingOut (arc_value line.mailbox) line.end
 
@@ -27,8 +27,8 @@ module _ {J : Type 0} where
     pub number : (view seat).number ≡ n
 
 module _ {J : Type 0} (M : Meaning J) where
-  -- The helper was given so many parts, one or none: so many seats of this board were split off the first one, which is
-  -- this before and after.
+  -- The helper was given one part or none: as many seats of this board were split off the first seat, which
+  -- is `first` before and first' afterwards.
   pub record Lends (board : Board J) (parts : ℕ) (before after : Line J) (first first' : BoardSeat J) : Type 0 where
     pub few : parts ≤ 1
     pub away : 0 < parts → IsAway board after (view first).made

@@ -6,8 +6,8 @@ use Rattle.cs_pool.specs.{Numbered.IsFirst, Pools.given_to, Pools.served_by, Wor
 use Rattle.cs_pool.specs.{declared.line.Line.Line, inner.Lines.IsAway, inner.Lines.IsIdle}
 
 module _ {J : Type 0} where
-  -- The first n helpers have a seat of the board each, which were split off the first one in turn and numbered from
-  -- this number on; the others have nothing. So many were given a part since they were as before.
+  -- Each of the first n helpers has a seat, numbered from `from` on, that was split off the first seat; the
+  -- other helpers have none. `parts` parts were given since `before`.
   pub record AreOut (board : Board J) (from n parts : ℕ) (before now : List (Line J)) : Type 0 where
     pub away : (i : ℕ) (line : Line J) → i < n → IsAway board (slice_index_or now i line) (from + i)
     pub home : (i : ℕ) (line : Line J) → n ≤ i → i < length now → IsIdle (slice_index_or now i line)
@@ -15,8 +15,8 @@ module _ {J : Type 0} where
     pub given : given_to now ≡ given_to before + parts
 
 module _ {J : Type 0} (M : Meaning J) where
-  -- the first n helpers were given a part each: so many seats were split off the first one, which is this before and
-  -- after
+  -- each of the first n helpers was given a part: n seats were split off the first seat, which is `first`
+  -- before and first' afterwards
   pub record AreLent (board : Board J) (n : ℕ) (before after : List (Line J)) (first first' : BoardSeat J)
       : Type 0 where
     pub out : AreOut board (view first).made n n before after

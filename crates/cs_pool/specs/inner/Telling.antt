@@ -1,6 +1,5 @@
--- What each kind of step on a mailbox tells the end that makes it.
--- st is the step, m the end before it, r the word that was found, n the end after it; e is what is out, t a task, s a
--- seat. M is what jobs mean.
+-- What each kind of step on a mailbox lets the end that makes it know. st is the step, m the end before it, r
+-- the word that was found, n the end after it; e is what is out, t a task, s a seat. M is what jobs mean.
 use Rattle.std.specs.Prelude.{◌≡◌, ◌≢◌, ℕ, [], ◌∷◌, Some, None, IfSome}
 use Rattle.std.specs.Arc.{arc_value}
 use Rattle.atomic_table.specs.Table.{Me, Step}
@@ -13,39 +12,41 @@ use Rattle.cs_pool.specs.declared.letter.MailboxLetter.{MailboxLetter}
 use Rattle.cs_pool.specs.declared.letter.TheConstants.{GIVEN, BACK}
 use Rattle.cs_pool.specs.declared.letter.MailboxLetter.TheVariants as letter
 
--- an end's view and the slots that it has taken, and what a step tells of it before, of the word found and of it after
+-- an end's view with the slots that it has taken
 abbrev pub Sat : Type 0 → Type 0
 Sat J = Me (MailboxLetter J) (Knows J)
 
+-- a relation between a step, the end before it, the word found and the end after it
 abbrev pub Tells : Type 0 → Type 1
 Tells J = Step (MailboxLetter J) → Sat J → ℕ → Sat J → Type 0
 
 module _ {J : Type 0} where
-  -- the end that is made first takes the slot along
+  -- the first end takes the content of the slot
   abbrev pub fetched : Tells J
   fetched st m r n = n ≡ (beginning Holder, (0, letter.Nothing) ∷ [])
 
-  -- the task that the caller has written into the slot is out, one more that was given
+  -- the task that the caller has written into the slot is out, and counts as given
   abbrev pub gave : Tells J
   gave st m r n = n ≡ (caller (one_given m.0.tasks) (task_in m.1), [])
 
-  -- the helper's answer lies in the slot, and it is free again
+  -- the helper's answer is in the slot, and the helper is free again
   abbrev pub gave_back : Tells J
   gave_back st m r n = n ≡ (helper None, [])
 
-  -- the caller knows what it knew
+  -- the caller knows what it knew before
   abbrev pub closed : Tells J
   closed st m r n = n ≡ m
 
 module _ {J : Type 0} (M : Meaning J) where
-  -- the helper found a task and is on duty with it, or found none
+  -- the helper found a task and works at it, or found none
   abbrev pub took : Tells J
   took st m r n =
       (r ≡ GIVEN → (t : Task J) × (n ≡ (helper (Some (errand_of t)), (0, letter.Task t) ∷ []))
       × IsDone M (arc_value t.board) t.seat)
       × (r ≢ GIVEN → n ≡ m)
 
-  -- the caller found the seat that was out, after its work, so that one task more was served, or found no answer
+  -- the caller found the seat that was out, after its work, so that one more task counts as served, or found
+  -- no answer
   abbrev pub collected : Tells J
   collected st m r n =
       (r ≡ BACK → (s : BoardSeat J) × (n ≡ (caller (one_served m.0.tasks) None, (0, letter.Answer s) ∷ []))

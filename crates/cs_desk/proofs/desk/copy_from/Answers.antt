@@ -1,17 +1,9 @@
-use Rattle.std.proofs.lemmas.{Grind.common_steps, List.get_or_read}
-use Rattle.std.proofs.Common.{◌+◌, arith, pos, rules}
-use Rattle.cs_cells.specs.Cells.{cell}
-use Rattle.cs_cells.proofs.Rows.{read_more, read_all}
+use Rattle.std.proofs.Common.{◌∙◌, arith, length}
+use Rattle.cs_desk.proofs.Copied.{part_is, room_of}
 use Rattle.cs_desk.proofs.desk.copy_from.Goals as goal
 
-pub loop-j-preserved : goal.loop-j-preserved
-loop-j-preserved c = record {
-  filled = read_more (cell c.args.numbers.now) c.loop-j.row c.args.first c.loop-j.j c.index-numbers-first.result
-      (omega arith) c.loop-j.invariant.filled
-      (get_or_read c.args.numbers.now (c.args.first + c.loop-j.j) c.index-numbers-first.result
-      (c.requires.there c.loop-j.j (omega arith)) c.index-numbers-first.is (pos 0));
-  long = search rules;
-}
-
 pub returns : goal.returns
-returns c = grind (arith, common_steps, read_all)
+returns c = c.copy_from_slice.ensures.after
+    ∙ part_is c.args.numbers.now c.args.first (length c.args.row.now) _
+    (room_of c.args.first (length c.args.row.now) (length c.args.numbers.now) c.is_empty.result c.is_empty.ensures
+    c.if-is_empty.false c.requires.there) (omega arith)

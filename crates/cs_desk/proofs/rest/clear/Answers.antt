@@ -21,7 +21,7 @@ fetch-job-requires-clause-full g c =
     c.notes-note-end.ensures) in
     (j.0, full_next g.J.Job.means k c.loop-note.note j.0 (known_in c.loop-note.seat) j.1 c.loop-note.invariant.clearing)
 
--- the job that was fetched is the one that the serial run leaves
+-- the job that was fetched is the job that the serial run leaves
 fetched : {J : Type 0} (js : List J) (t : ℕ) (l : t < length js) (homes : List (Option (Berth J))) (job : J)
     → slice_get homes t ≡ Some (Some (Full ((there js t l).0)))
     → slice_get homes t ≡ Some (Some (Full job)) → slice_get js t ≡ Some job

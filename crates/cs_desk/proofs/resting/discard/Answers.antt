@@ -3,7 +3,7 @@ use Rattle.cs_board.specs.declared.view.Berth.{Berth}
 use Rattle.cs_board.specs.declared.view.Berth.TheVariants.{Vacant}
 use Rattle.cs_desk.proofs.resting.discard.Goals as goal
 
--- the last of vacant slots, and the others
+-- the last of vacant slots, and those before it
 last_vacant : {J : Type 0} (xs : List (Berth J)) (x : Berth J)
     → xs ++ x ∷ [] ≡ replicate (length (xs ++ x ∷ [])) Vacant
     → (x ≡ Vacant) × (xs ≡ replicate (length xs) Vacant)

@@ -56,7 +56,7 @@ returns-clause-was g c =
     c.args.berth c.exchange-held.new.seat.me c.exchange-held.ensures.2 c.exchange-held.ensures.3).0 in
     b.1 ∙ ap (λ x. Some (Some x)) (sym held)
 
--- what the seat has and knows afterwards
+-- what the seat carries and knows afterwards
 left : (g : Over) (c : goal.After-load-2 g) → c.load-2.new.seat.me
     ≡ (laid c.args.seat.now.me.0 (with_home (known_in c.args.seat.now) c.args.note (Some c.args.berth)), [])
 left g c =

@@ -9,7 +9,7 @@ use Rattle.cs_rwset.specs.Footprints.{stock_of}
 use Rattle.cs_piece.specs.Setups.{SetupData, composition_of}
 use Rattle.cs_turns.specs.Turns.{IsFootOf, line_of, stock_in}
 use Rattle.cs_voice.specs.VoiceData.{VoiceData}
-use Rattle.cs_perform.proofs.{Standings.own_course, Turning.feet_of_notes}
+use Rattle.cs_perform.proofs.{Standings.own_course, Turning.feet_of_notes, Turning.no_line}
 use Rattle.cs_typed.specs.TypedTree as typed
 use Rattle.cs_perform.proofs.turns.tell_turns.Goals as goal
 
@@ -25,6 +25,10 @@ follow-requires-clause-few g c =
 
 pub follow-requires-clause-course : goal.follow-requires-clause-course
 follow-requires-clause-course g c = c.requires.1.turns
+
+pub returns-then-not-has_line-clause-told : goal.returns-then-not-has_line-clause-told
+returns-then-not-has_line-clause-told g c m at =
+    no_line c.args.cycle c.args.turns.now.items _ (sym c.has_line.ensures ∙ c.if-not-has_line.true)
 
 pub returns-clause-at : goal.returns-clause-at
 returns-clause-at g c =

@@ -3,7 +3,7 @@ use Rattle.std.specs.{List.All, Vec.vec_capacity}
 use Rattle.cs_row.specs.{Rooms.IsEmptied, Laws.all_notes}
 use Rattle.cs_row.proofs.memory.empty_rows.Given as goal
 
--- the rows that are left stand the last one first
+-- the remaining rows, the last one first
 abbrev pub invariant-loop : goal.invariant-loop
 invariant-loop g l = record {
   left : length l.rows.items + l.counter ≡ length l.initial.rows.items;

@@ -3,7 +3,7 @@ use Rattle.std.specs.{List.All, Vec.vec_capacity}
 use Rattle.cs_row.specs.{Cuts.IsCut, Rooms.IsEmptied, Rooms.IsWide, Laws.jobs_of, Rows.notes_in}
 use Rattle.cs_row.proofs.memory.fill_rows.Given as goal
 
--- the first rows are filled, and the notes of the others are left, the last one first
+-- the first rows are filled, and the notes of the others remain, the last one first
 abbrev pub invariant-loop-at : goal.invariant-loop-at
 invariant-loop-at g l = record {
   low : l.at ≤ length l.cuts;

@@ -47,7 +47,7 @@ put_job-requires-clause-carries g c =
 pub put_job-requires-clause-job : goal.put_job-requires-clause-job
 put_job-requires-clause-job g c = (c.take_job-job.result, c.take_job-job.ensures.job, c.perform.ensures.job)
 
--- what the view has become: the note has run, and all else is as it was
+-- the view afterwards: the note has run, and everything else is as before
 ran_in : (g : Over) (c : After-put_job g) → c.put_job.new.sitting.me.0
     ≡ does (view c.args.seat.now) (run_through g.J.Job.means (plan c.args.self.now) c.args.seat.now.note)
 ran_in g c =

@@ -1,11 +1,11 @@
-use Rattle.std.proofs.Common.{◌∙◌, ◌+◌, ◌≤◌, length, ap, inl, inr, subst, refl, sym, arith}
+use Rattle.std.proofs.Common.{◌≡◌, ◌∙◌, ◌+◌, ◌≤◌, true, false, length, ap, subst, refl, sym, arith}
 use Rattle.cs_board.specs.Board.{plan, name, graph_of, IsSeatOf}
 use Rattle.cs_cells.specs.Serial.{serial_cells, serial_jobs}
 use Rattle.cs_desk.proofs.Cycling.{was_played}
 use Rattle.cs_desk.specs.Desk.{cells}
-use Rattle.cs_pool.proofs.Given.{none_wanted, nothing_more}
+use Rattle.cs_pool.proofs.{Given.nothing_more, Missed.learns}
 use Rattle.cs_graph.specs.Cover.{HasCover}
-use Rattle.cs_pool.specs.Pools.{helpers, tasks_given, NeedsNoHelper}
+use Rattle.cs_pool.specs.Pools.{tasks_given}
 use Rattle.cs_pool.proofs.pool.Pool.cycle.Goals as goal
 
 pub returns-clause-played : goal.returns-clause-played
@@ -27,16 +27,12 @@ returns-clause-played g c =
 
 pub returns-clause-learned : goal.returns-clause-learned
 returns-clause-learned g c =
-    let l = c.play-board.ensures.learned in inl (record { served = l.served; helped = l.helped; missed = l.missed })
+    let l = c.play-board.ensures.learned in record { served = l.served; helped = l.helped; missed = l.missed }
 
 pub returns-then-others-eq0-clause-learned : goal.returns-then-others-eq0-clause-learned
-returns-then-others-eq0-clause-learned g c = inr (
-  subst (λ z. NeedsNoHelper (helpers c.args.self.now) z.edges (length z.levels)) c.deref.ensures
-      (none_wanted (helpers c.args.self.now) c.wanted-others.ensures.0 c.deref.result.now.edges
-      (length c.deref.result.now.levels) c.wanted-others.ensures.1
-      (sym c.wanted-others.ensures.2 ∙ c.if-others-eq0.true)),
-  record { served = refl; alone = refl; missed = λ k h. h },
-)
+returns-then-others-eq0-clause-learned g c =
+    learns c.args.self.now _ false (λ h. absurd (let wrong : false ≡ true = h in cc)) (λ h. refl)
+    c.learn.ensures.begun c.learn.ensures.missed
 
 pub returns-then-others-eq0-clause-shared : goal.returns-then-others-eq0-clause-shared
 returns-then-others-eq0-clause-shared g c =
@@ -45,6 +41,8 @@ returns-then-others-eq0-clause-shared g c =
       chains = w.0;
       cover = subst (λ z. HasCover z.edges (length z.levels) w.0) c.deref.ensures w.1;
       parts = record { most = omega arith; all = λ h. nothing_more _ _ (sym w.2 ∙ c.if-others-eq0.true) };
+      first = λ some. absurd (omega (arith, some, w.2, c.if-others-eq0.true));
+      none = λ h. refl;
     }
 
 pub open-board-requires : goal.open-board-requires
@@ -87,4 +85,6 @@ returns-clause-shared g c =
         most = subst (λ n. tasks_given c.play-board.new.self ≤ tasks_given c.args.self.now + n) w.2 p.most;
         all = λ h. p.all h ∙ ap (λ n. tasks_given c.args.self.now + n) w.2;
       };
+      first = λ some. c.play-board.ensures.shared;
+      none = λ none. absurd (omega (arith, none, w.2, c.if-others-eq0.false));
     }

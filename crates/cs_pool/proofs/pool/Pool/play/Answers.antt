@@ -25,7 +25,7 @@ pub share-shared-requires-clause-few : goal.share-shared-requires-clause-few
 share-shared-requires-clause-few g c =
     omega (arith, c.requires.few, ap length c.as_mut_slice-lines.ensures.value)
 
--- the helpers' lines are those that the cycle has left
+-- the helpers' lines are those after the cycle
 lines_are : (g : Over) (c : After-sole g)
     → (with_items c.args.self.now.lines c.share-shared.new.lines).items ≡ c.share-shared.new.lines
 lines_are g c = with_items_is c.args.self.now.lines c.share-shared.new.lines

@@ -3,7 +3,7 @@ use Rattle.std.specs.Vec.{vec_capacity}
 use Rattle.cs_row.specs.{Cuts.IsCut, Rows.notes_in, Rows.row_foot}
 use Rattle.cs_row.proofs.rows.Rows.feet.Given as goal
 
--- the feet so far are those of the first rows, whose notes stand before the next
+-- the footprints so far belong to the first rows, whose notes come before the next one
 abbrev pub invariant-loop-at : goal.invariant-loop-at
 invariant-loop-at g l = record {
   low : l.at ≤ length l.self.cuts.items;
