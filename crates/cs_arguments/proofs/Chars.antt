@@ -6,7 +6,7 @@ use Rattle.std.proofs.Common.{true≢false}
 use Rattle.std.proofs.lemmas.Str.{chars_past_char, byte_from_char, length-encode, len_utf8_ascii, encode_ascii}
 use Rattle.cs_arguments.specs.Reading.{Text, is_flag_letter, is_value_letter}
 
--- a byte that is a letter of a flag is one of five
+-- a byte that is the letter of a flag is one of five
 one_more : (P : ℕ → Type 0) (y x : ℕ) (b : Bool) → ((y == x) || b) ≡ true → P y → (b ≡ true → P x) → P x
 one_more P y x b h p rest = grind (arith, common_steps, eqb-true)
 
@@ -47,7 +47,7 @@ first_of x rest utf8 = go utf8.0 utf8.1.1
       λ low. byte_from_char (x ∷ rest) (encode_utf8_all cs) c (sym e) low,
     )
 
--- where the first byte is no letter of an option, the first character is none
+-- if the first byte is no letter of an option or flag, neither is the first character
 pub no_letter : (x : ℕ) (rest : Text) → IsUtf8 (x ∷ rest) → is_flag_letter x ≡ false → is_value_letter x ≡ false
     → (y : ℕ) × (slice_get (chars (x ∷ rest)) 0 ≡ Some y) × (is_flag_letter y ≡ false) × (is_value_letter y ≡ false)
 no_letter x rest utf8 no_flag no_value =

@@ -1,4 +1,4 @@
--- The command's own rules are such as the walk asks for, and each value is judged as the reading judges it.
+-- The command's own rules are as the walk requires, and values are judged as in the reading.
 use Rattle.std.proofs.lemmas.{Grind.common_steps, Slice.Eq.bytes_eq-Decides}
 use Rattle.std.proofs.Common.{◌≡◌, ◌&&◌, ◌∷◌, ◌<◌, ◌^◌, ℕ, pos, zero, suc, neg_ℤ, true, false, [], Some}
 use Rattle.std.proofs.Common.{None, refl, subst, codes, bytes_eq, length, nat_lt, nat_le, int_le, eqb-true, arith}

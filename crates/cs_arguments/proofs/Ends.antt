@@ -1,4 +1,4 @@
--- What clap makes of all words: its fault, and its rows.
+-- clap's result for all arguments: its fault, and its rows.
 use Rattle.std.proofs.Common.{arith, ◌≡◌, ◌∙◌, ◌∷◌, ℕ, true, false, List, Option, None, refl, ap, [], codes, fold, All}
 use Rattle.std.proofs.Common.{IsUtf8}
 use Rattle.std.proofs.lemmas.Grind.{common_steps}

@@ -1,4 +1,4 @@
--- What a word looks like: to clap's lexer and to the reading.
+-- The forms of an argument: for clap's lexer and for the reading.
 use Rattle.std.proofs.Common.{◌≡◌, ◌==◌, ◌∷◌, ℕ, Bool, true, false, [], Option, Some, None, refl, sym, ap, subst}
 use Rattle.std.proofs.Common.{bytes_eq, IsUtf8, arith, eqb-true}
 use Rattle.clap.specs.Lexer.{long_of, short_of}
@@ -8,7 +8,7 @@ use Rattle.cs_arguments.proofs.Chars.{low_tail}
 abbrev pub dashes : Text
 dashes = 45 ∷ 45 ∷ []
 
--- each word is a name or value, `--`, a long name, or letters
+-- each argument is a name or value, `--`, a long name, or letters
 pub data Form (word : Text) : Type 0 where
   a_name : bytes_eq word dashes ≡ false → long_of word ≡ None → short_of word ≡ None
       → ((s : Said) → worded word s ≡ Some (plain s.wants word s)) → Form word
@@ -20,7 +20,7 @@ pub data Form (word : Text) : Type 0 where
       → short_of word ≡ Some (x ∷ rest)
       → ((s : Said) → worded word s ≡ unless_wanting s.wants (lettered (x ∷ rest) s)) → Form word
 
--- a word that begins with something else
+-- an argument that begins with another character
 plain_form : (x : ℕ) (rest : Text) → (x == 45) ≡ false → Form (x ∷ rest)
 plain_form x rest e = a_name (simp e refl) (simp e refl) (simp e refl) (λ s. simp e refl)
 

@@ -1,4 +1,4 @@
--- A word of flags, by clap's walk and by the reading.
+-- An argument with flags, in clap's walk and in the reading.
 use Rattle.std.proofs.Common.{arith, ◌≡◌, ◌==◌, ◌∙◌, ◌++◌, ◌∷◌, ℕ, Bool, true, false, cond, List, Option, Some}
 use Rattle.std.proofs.Common.{None, [], refl, sym, ap, subst, codes, true≢false, length, IsUtf8, chars, slice_get}
 use Rattle.std.proofs.lemmas.{Grind.common_steps, Bool.and_left}
@@ -15,7 +15,7 @@ use Rattle.cs_arguments.proofs.Walking.{clear, clear_nil, clear_or, bad_more, Do
 use Rattle.cs_arguments.proofs.Walking.{held, with_open, IsOpen, settle_clear, settled_held, react_clear, react_held}
 use Rattle.cs_arguments.proofs.Rules.{IsCommand}
 
--- what is said between words, where no value is wanted
+-- what was said between two arguments, if no value is missing
 abbrev pub state : List Use → Said
 state us = record { uses = us; wants = None; only_names = false }
 
@@ -30,12 +30,12 @@ abbrev pub outcome_for : Option Text → Outcome
 outcome_for None = done
 outcome_for (Some key) = waits key
 
--- clap's walk over a word agrees with what is said after it
+-- clap's walk over an argument agrees with what is said after it
 abbrev pub Met : Option Said → Kinds → Held × Outcome → Type 0
 Met None fault met = clear fault ≡ false
 Met (Some s) fault met = (clear fault ≡ good s.uses) × (good s.uses ≡ true → met ≡ (now_held s, outcome_for s.wants))
 
--- uses that aren't good never become good
+-- uses that aren't valid never become valid
 abbrev pub Bad : Option Said → Type 0
 Bad None = ⊤
 Bad (Some s) = good s.uses ≡ false
@@ -89,7 +89,7 @@ flag_alone c a u us p does opened fine = (
   λ ok. ap (λ h. (h, done)) (react_held c a [] us p u does opened ok),
 )
 
--- what the flags after one come to
+-- the result of the flags after one
 abbrev Goes : List Rule → Text → Type 0
 Goes c rest = (us : List Use) → IsUtf8 rest → good us ≡ true
     → Met (lettered rest (state us)) (flags_fault c false (length rest) rest 0 (held us None))
@@ -114,7 +114,7 @@ flag_then c a u us p rest does opened fine utf8 goes = go (good (with_open us p 
     go false e = met_bad _ _ _
         (lettered_bad rest _ e) (clear_or _ _ ∙ and_left _ _ (react_clear _ _ [] us p u does opened fine ∙ e))
 
--- ---- the letters of a word
+-- ---- the letters of an argument
 
 attached : (y : ℕ) (ys : Text) → attached_value (y ∷ ys) ≡ Some (cond (y == 61) ys (y ∷ ys))
 attached y ys = grind (arith, common_steps)

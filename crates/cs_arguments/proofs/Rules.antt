@@ -1,4 +1,4 @@
--- What is known of the rules: each letter, name and place leads to its rule.
+-- What is known about the rules: each letter, name and position leads to its rule.
 use Rattle.std.proofs.Common.{arith, ◌≡◌, ◌++◌, ◌∷◌, ℕ, true, false, List, [], Some, None, refl, codes, bytes_eq}
 use Rattle.std.proofs.lemmas.{Grind.common_steps, Bool.and_right}
 use Rattle.clap.specs.Walk.{Rule, arg_by_short, arg_by_long, arg_by_index}
@@ -6,7 +6,7 @@ use Rattle.cs_arguments.specs.Reading.{Text, Use, has_use, is_flag_letter, is_va
 use Rattle.cs_arguments.specs.Command.{flag_rule, option_rule}
 use Rattle.cs_arguments.proofs.Walking.{IsFlagKey, IsKey, has_more}
 
--- a key that is no name's
+-- a key of an option or flag
 abbrev pub IsOptionKey : Text → Type 0
 IsOptionKey key = (bytes_eq key (codes "ORC") ≡ false) × (bytes_eq key (codes "SCO") ≡ false)
 
@@ -32,7 +32,7 @@ pub record IsCommand (c : List Rule) : Type 0 where
 pub letter_key : (x : ℕ) → IsOptionKey (x ∷ [])
 letter_key x = (and_right _ false refl, and_right _ false refl)
 
--- a use of an option leaves the names as they are
+-- a use of an option doesn't change the names
 pub keeps_name : (name : Text) (us : List Use) (u : Use) → bytes_eq u.0 name ≡ false
     → has_use name (us ++ u ∷ []) ≡ has_use name us
 keeps_name name us u other = grind (arith, common_steps, has_more)

@@ -1,4 +1,4 @@
--- clap's turn at one word, by what the word looks like.
+-- clap's step at one argument, by the argument's form.
 use Rattle.std.proofs.Common.{arith, ◌≡◌, ◌∙◌, ◌∷◌, ℕ, Bool, true, false, cond, List, [], Option, Some, None, refl, ap}
 use Rattle.std.proofs.Common.{bytes_eq, length, IsUtf8}
 use Rattle.std.proofs.lemmas.{Grind.common_steps, Bool.and_left}
@@ -12,12 +12,12 @@ use Rattle.clap.specs.Walk.{word_met, to_positional, arg_by_index}
 use Rattle.cs_arguments.specs.{Reading.Text, Command.shape}
 use Rattle.cs_arguments.proofs.{Chars.first_of, Walking.clear, Walking.clear_or, Forms.dashes}
 
--- where the walk stands
+-- the state of the walk
 abbrev pub walk_at : Held → Waiting → ℕ → Bool → Walk
 walk_at h waiting position only =
     record { held = h; waiting = waiting; position = position; is_trailing = only; stopped = None }
 
--- the turn at a word of which these three are known
+-- the step at an argument whose three forms are known
 abbrev met_long : List Rule → Waiting → Text → Held → Option (Text × Option Text) → Option Text → Held × Step
 met_long c waiting word h (Some p) letters = long_word c waiting word p.0 p.1 h
 met_long c waiting word h None letters = short_or_plain c waiting word letters h
@@ -51,7 +51,7 @@ fault_longer : (c : List Rule) (word : Text) (h : Held) (long : Option (Text × 
 fault_longer c word h None = refl
 fault_longer c word h (Some p) = refl
 
--- what may wait between two words of this command
+-- what may wait between two arguments of this command
 pub data IsWaiting : Waiting → Type 0 where
   none : IsWaiting idle
   one : (key : Text) → IsWaiting (wait_for_option key)
@@ -83,7 +83,7 @@ pub walk_is : (c : List Rule) (waiting : Waiting) → IsWaiting waiting
 unfolding walked
 walk_is c waiting is position word h stop long letters e f g = grind (arith, common_steps, met_is)
 
--- after `--` each word is a name
+-- after `--` each argument is a name
 pub turn_trailing : (c : List Rule) (waiting : Waiting) (position : ℕ) (word : Text) (h : Held)
     → turn_fault (shape c) [] (walk_at h waiting position true) word ≡ step_fault (shape c) position h value
 turn_trailing c waiting position word h = refl
@@ -94,7 +94,7 @@ pub walk_trailing : (c : List Rule) (waiting : Waiting) (position : ℕ) (word :
 unfolding walked
 walk_trailing c waiting position word h = refl
 
--- ---- an option that still wants its value refuses each flag
+-- ---- an option whose value is still missing refuses each flag
 
 wants_first : (c : List Rule) (h : Held) → clear (settle_fault c false h) ≡ false → (a : Rule) (values : List Text)
     → clear (react_fault c false a values h) ≡ false

@@ -1,4 +1,4 @@
--- What the getters read of the matches, by the uses.
+-- The results of the getters on the matches, in terms of the uses.
 use Rattle.std.proofs.lemmas.{Grind.common_steps, Bool.and_parts, Bool.or_parts, Slice.Eq.bytes_eq-Decides}
 use Rattle.std.proofs.Common.{◌≡◌, ◌||◌, ◌∙◌, ◌++◌, ◌∷◌, ◌<◌, ◌≤◌, ◌^◌, ℕ, Bool, true, false, not, cond, List, []}
 use Rattle.std.proofs.Common.{Option, Some, None, Result, Ok, Err, is_some, option_map, option_and_then, find, fold}
@@ -16,7 +16,7 @@ use Rattle.cs_arguments.specs.{Command.parser_of, Command.the_rules, Taken.ends,
 use Rattle.cs_arguments.proofs.{Walking.joins, Command.no_minus}
 use Rattle.clap.specs.declared.builder.value_parser.Reading.TheVariants as reading
 
--- ---- the rows of defaults come after those of the uses
+-- ---- the rows of defaults come after the rows of the uses
 
 abbrev or_row : Option Row → Option Row → Option Row
 or_row None later = later
@@ -86,7 +86,7 @@ row_is : (key : Text) (us : List Use)
 row_is key us = defaults_found key the_rules (rows us)
     ∙ ap (λ o. or_row o (default_for key the_rules)) (sym (find-map (λ r. bytes_eq r.id key) row us))
 
--- a use that is found has the key, and a value that it takes
+-- a use that is found has the key, and a valid value
 abbrev IsFound : Text → Option Use → Type 0
 IsFound key None = ⊤
 IsFound key (Some u) = (u.0 ≡ key) × (is_value u ≡ true)
@@ -193,7 +193,7 @@ number_row most key is us fine =
         let number : is_number most u.1 ≡ true = sym (is.2 u.1) ∙ ap (λ t. is_value (t, u.1)) (sym found.0) ∙ found.1 in
         ap (λ h. Some (read_as h u.1)) how ∙ ap Some (no_minus_in most u.1 number)
 
--- the value of a number that stands is in range
+-- the value of a number that was used is in range
 pub number_for : (most : ℕ) (key : Text) → IsCounted most key → (us : List Use) → good us ≡ true → (v : Text)
     → value_of key us ≡ Some v → is_number most v ≡ true
 number_for most key is us fine v at = go (use_for key us) (found_in key [] us fine) at

@@ -1,4 +1,4 @@
--- Uses as rows of matches: one more use, and the argument that is still open.
+-- Uses as rows of matches: one more use, and the option or name that is still open.
 use Rattle.std.proofs.Common.{arith, ◌≡◌, ◌&&◌, ◌||◌, ◌∙◌, ◌++◌, ◌∷◌, ℕ, Bool, true, false, not, cond, List, [], Option}
 use Rattle.std.proofs.Common.{Some, None, refl, sym, ap, ap₂, codes, bytes_eq, append_assoc, true≢false}
 use Rattle.std.proofs.lemmas.{Grind.common_steps, Bool.or_parts, Bool.and_parts, Bool.and_left, List.map-append}
@@ -14,7 +14,7 @@ use Rattle.cs_arguments.specs.Taken.{good, row, rows}
 use Rattle.clap.specs.declared.builder.value_parser.Reading.TheVariants as reading
 use Rattle.clap.specs.declared.error.kind.ErrorKind.TheVariants as kind
 
--- ---- faults: only whether there is one matters
+-- ---- faults: it only matters whether there is one
 
 abbrev pub clear : Kinds → Bool
 clear [] = true
@@ -43,7 +43,7 @@ no_row key change missing (u ∷ us) none =
     let parts = or_parts (bytes_eq u.0 key) (has_use key us) none in
     rw parts.0 (ap (λ rs. row u ∷ rs) (no_row key change missing us parts.1))
 
--- the rows after a use of what has none yet
+-- the rows after a use of an option that had none yet
 added : (key : Text) (value : Text) (us : List Use) (change : Row → List Row) → has_use key us ≡ false
     → at_row key change (row (key, value) ∷ []) (at_row key (λ _. []) [] (rows us)) ≡ rows (us ++ (key, value) ∷ [])
 added key value us change none =
@@ -56,7 +56,7 @@ added key value us change none =
 
 -- ---- one more use
 
--- a use that may join these
+-- a use that is valid together with these
 abbrev pub joins : List Use → Use → Bool
 joins us u = not (has_use u.0 us) && is_value u
 
@@ -91,7 +91,7 @@ good_before us u h = and_parts (good us) (joins us u) (sym (good_more us u) ∙ 
 pub joins_new : (us : List Use) (u : Use) → joins us u ≡ true → has_use u.0 us ≡ false
 joins_new us u h = grind (arith, common_steps, and_parts, not)
 
--- ---- what a use of a rule comes to, whatever was used before
+-- ---- the result of a use of a rule, whatever was used before
 
 pub record Does (a : Rule) (values : List Text) (u : Use) : Type 0 where
   pub clears : (us : List Use) → clear (use_fault false a values (rows us)) ≡ joins us u
@@ -104,7 +104,7 @@ judged true b false v k l e f = ap₂ (λ x y. not x && y) e f
 judged false b true v k l e f = ap₂ (λ x y. not x && y) e f
 judged false b false v k l e f = ap₂ (λ x y. not x && y) e f
 
--- the values of an option or name are read as `is_value` says
+-- the values of an option or name are read the way `is_value` says
 abbrev pub Judges : Text → Type 0
 Judges key = (v : Text) → accepts false (parser_of key) v ≡ is_value (key, v)
 
@@ -123,7 +123,7 @@ pub flag_does : (key : Text) (long : Option Text) (short : Option ℕ) → IsFla
     → Does (flag_rule key long short) [] (key, codes "true")
 flag_does key long short is = grind (arith, common_steps, added, codes, has_row-rows, judged)
 
--- ---- what is held, where the last use may still be open
+-- ---- what is held, if the last use may still be open
 
 abbrev pub open_of : Option Use → Option (Text × List Text)
 open_of None = None

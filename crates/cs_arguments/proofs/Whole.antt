@@ -1,4 +1,4 @@
--- All the words: clap takes them where the uses that they say stand together, and its rows are those uses.
+-- All arguments: clap accepts them if and only if their uses are valid together, and its rows are these uses.
 use Rattle.std.proofs.Common.{arith, ◌≡◌, ◌==◌, ◌&&◌, ◌||◌, ◌∙◌, ◌++◌, ◌∷◌, ◌+◌, ℕ, Bool, true, false, not, cond, List}
 use Rattle.std.proofs.Common.{[], Option, Some, None, is_some, option_and_then, refl, sym, ap, codes, bytes_eq}
 use Rattle.std.proofs.Common.{length, All, fold, IsUtf8, true≢false, min, nat_lt}
@@ -23,7 +23,7 @@ use Rattle.cs_arguments.proofs.{Letters.titles, Letters.pending_for, Turns.wants
 use Rattle.cs_arguments.proofs.Forms.{Form, a_name, a_stop, a_title, some_letters, form_of}
 use Rattle.cs_arguments.proofs.Turns.{walk_at, none, one, turn_is, walk_is, turn_trailing, walk_trailing, wants_long}
 
--- ---- uses that aren't good stay so, whatever follows
+-- ---- uses that aren't valid stay invalid, whatever follows
 
 plain_bad : (w : Option Text) (word : Text) (s : Said) → good s.uses ≡ false → good (plain w word s).uses ≡ false
 plain_bad None word s bad = bad_more s.uses _ bad
@@ -87,7 +87,7 @@ place no_name = 1
 place one_name = 2
 place two_names = 3
 
--- ---- what a word of flags leaves as it is
+-- ---- what an argument with flags doesn't change
 
 abbrev pub WantsKey : List Rule → Option Text → Type 0
 WantsKey c None = ⊤
@@ -154,13 +154,13 @@ title_leaves c is name (Some value) us = go (is_value_name name) refl
     go true v = one_used c us (name, value) (is.value_name_key name v).1
     go false v = tt
 
--- ---- between two words
+-- ---- between two arguments
 
 pub data At : Type 0 where
   open_at : List Use → Option Use → Bool → Count → At
   wait_for : List Use → Text → Count → At
 
--- what is said there, and where clap's walk stands
+-- what was said between two arguments, and the state of clap's walk
 abbrev pub said_at : At → Said
 said_at (open_at us p only n) = record { uses = with_open us p; wants = None; only_names = only }
 said_at (wait_for us key n) = record { uses = us; wants = Some key; only_names = false }
@@ -191,7 +191,7 @@ Agrees c o w words = AgreesBy o (all_faults c w words) (settled c (walk_end c w 
 abbrev Ahead : List Rule → List Text → Type 0
 Ahead c rest = (at : At) → IsFine c at → Agrees c (said (said_at at) rest) (clap_at at) rest
 
--- ---- one word
+-- ---- one argument
 
 agrees_bad : (c : List Rule) (s : Said) (w : Walk) (word : Text) (rest : List Text)
     → accepted (said s (word ∷ rest)) ≡ false → clear (turn_fault (shape c) [] w word) ≡ false
@@ -229,7 +229,7 @@ after_words : (us : List Use) (w : Option Text) (word : Text) (o : Option Said)
 unfolding after
 after_words us w word o e = e
 
--- ---- a word that is a name
+-- ---- an argument that is a name
 
 named_as : (us : List Use) (only : Bool) (word : Text) (b : Bool) → has_use (codes "ORC") us ≡ b
     → named word (record { uses = us; wants = None; only_names = only }) ≡ record
@@ -243,7 +243,7 @@ name_fault c position h = step_fault (shape c) position h to_place
 abbrev name_walk : List Rule → ℕ → Bool → Text → Held → Walk
 name_walk c position only word h = to_positional c (arg_by_index c position) word (walk_at h idle position only) h
 
--- the fault and the walk of a name that finds its place
+-- the fault and the walk of a name that finds its position
 place_fault : (c : List Rule) (position : ℕ) (h : Held) (key : Text) (index : Option ℕ)
     → arg_by_index c position ≡ Some (option_rule key None None index)
     → name_fault c position h ≡ settle_fault c false h
@@ -257,7 +257,7 @@ place_walk : (c : List Rule) (position : ℕ) (only : Bool) (word : Text) (us : 
 place_walk c position only word us p key index found settles =
     grind (arith, common_steps, and_right, held, min, walk_at)
 
--- a name where `us` are used and p is open
+-- a name after the uses `us`, with p open
 name_on : (c : List Rule) → IsCommand c → (us : List Use) (p : Option Use) (only : Bool) (n : Count) (word : Text)
     (rest : List Text) → IsFine c (open_at us p only n)
     → after (said_at (open_at us p only n)) word ≡ Some (named word (said_at (open_at us p only n)))
@@ -266,7 +266,7 @@ name_on : (c : List Rule) → IsCommand c → (us : List Use) (p : Option Use) (
     → Agrees c (said (said_at (open_at us p only n)) (word ∷ rest)) (clap_at (open_at us p only n)) (word ∷ rest)
 name_on c is us p only n word rest fine says faults walks ahead = count n fine says faults walks
   where
-    -- the name goes to its place
+    -- the name is stored at its position
     placed : (n m : Count) (key : Text) (b : Bool) (index : Option ℕ) → IsFine c (open_at us p only n)
         → has_use (codes "ORC") (with_open us p) ≡ b → cond b (codes "SCO") (codes "ORC") ≡ key → IsKey c key
         → arg_by_index c (place n) ≡ Some (option_rule key None None index) → min (place n + 1) usize_max ≡ place m
@@ -320,7 +320,7 @@ name_on c is us p only n word rest fine says faults walks ahead = count n fine s
         (ap clear (faults ∙ ap (λ o. option_map_or (λ a. positional_fault c false a (held us p)) o
         (stray_fault (shape c))) is.third))
 
--- ---- a word of flags
+-- ---- an argument with flags
 
 flags_on : (c : List Rule) (us : List Use) (p : Option Use) (n : Count) (word : Text) (rest : List Text)
     (o : Option Said) (fault : Kinds) (met : Held × Outcome) → HasCount n (with_open us p)
@@ -355,7 +355,7 @@ flags_on c us p n word rest (Some t) fault met counted says faults walks is_met 
     go false e = agrees_bad _ _ _ _ _ (bad_reading _ _ _ _ says e)
         (ap clear faults ∙ clear_or _ _ ∙ and_left _ _ (is_met.0 ∙ e))
 
--- ---- a word where a value is wanted
+-- ---- an argument when a value is missing
 
 wants_settle : (c : List Rule) (us : List Use) (key : Text) → IsKey c key
     → clear (settle_fault c false (held_for us key)) ≡ false
@@ -381,7 +381,7 @@ value_on c is us key n word rest fine says faults walks ahead =
     (walks ∙ ap (λ (q : Held × Waiting). record (clap_at (wait_for us key n)) { held = q.0; waiting = q.1 }) waits)
     (fine.0, k, still_count _ c _ _ (one_used _ _ _ fine.1.1) fine.2) ahead
 
--- `--` in place of a value: clap goes on, and fails later
+-- `--` instead of a value: clap goes on, and fails later
 doomed : (c : List Rule) → IsCommand c → (us : List Use) (key : Text) (n : Count) → IsKey c key → (rest : List Text)
     → clear (all_faults c (walk_at (held_for us key) (wait_for_option key) (place n) true) rest) ≡ false
 unfolding walk_fault
@@ -403,7 +403,7 @@ unfolding walk_fault
 stop_on c is us key n word rest k says faults walks =
     grind (arith, common_steps, clear, doomed, fold, held, no_reading, none)
 
--- ---- any word, and all of them
+-- ---- any argument, and all of them
 
 step_open : (c : List Rule) (is : IsCommand c) (us : List Use) (p : Option Use) (n : Count) (word : Text)
     (rest : List Text) → Form word → IsFine c (open_at us p false n) → Ahead c rest

@@ -1,14 +1,14 @@
--- How many workers and notes the words can ask for.
+-- How many workers and notes the arguments can ask for.
 use Rattle.std.specs.Prelude.{ℕ, ◌≤◌}
 
--- the most workers that share the notes of a cycle
+-- the highest number of workers that share the notes of a cycle
 abbrev pub most_workers : ℕ
 most_workers = 32
 
--- the most notes of the demo
+-- the highest number of notes of the demo
 abbrev pub most_demo_notes : ℕ
 most_demo_notes = 10000
 
--- a number from 1 to this one
+-- a number from 1 to `most`
 abbrev pub IsFromOneTo : ℕ → ℕ → Type 0
 IsFromOneTo most n = (1 ≤ n) × (n ≤ most)

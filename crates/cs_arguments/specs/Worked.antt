@@ -1,9 +1,9 @@
--- Words whose reading is worked out by hand.
+-- Arguments whose reading is worked out by hand.
 use Rattle.std.specs.Prelude.{false, List, [], ◌∷◌, codes}
 use Rattle.cs_base.specs.declared.width.SampleWidth.TheVariants as width
 use Rattle.cs_arguments.specs.Reading.{Asked, AskedPiece, Text, two_files}
 
--- a piece by itself: without options and flags
+-- a piece without options and flags
 abbrev pub piece_alone : AskedPiece → Asked
 piece_alone piece = record {
   workers = 1;
@@ -19,11 +19,11 @@ piece_alone piece = record {
 abbrev pub a_and_b : AskedPiece
 a_and_b = two_files (codes "a") (codes "b")
 
--- words that end in the names `a` and `b`
+-- arguments that end in the names `a` and `b`
 abbrev pub a_b : List Text
 a_b = codes "a" ∷ codes "b" ∷ []
 
--- a number out of range, or none
+-- a number out of range, or no number
 abbrev pub no_numbers : List (List Text)
 no_numbers =
     (codes "-j" ∷ codes "0" ∷ a_b)
@@ -59,7 +59,7 @@ wrong_names =
     ∷ (codes "x.CSD" ∷ [])
     ∷ []
 
--- a value where none is taken
+-- a value for a flag, which takes none
 abbrev pub unwanted_values : List (List Text)
 unwanted_values = (codes "--turns=1" ∷ a_b) ∷ (codes "-n=" ∷ a_b) ∷ []
 

@@ -1,11 +1,12 @@
-//! What the words behind the program's name ask for.
+//! What the command-line arguments ask for.
 //!
-//! The one contract: `reading` of specs/Reading.antt, the definition that cs_command answers by; the types here are
-//! what an order is made of. The proofs say that the crate `clap`, as its statements describe it, reads words by this
-//! definition; they may be changed without anyone above noticing, the definition may not.
+//! The one contract: `reading` of specs/Reading.antt, the definition to which cs_command's result conforms;
+//! the types here are the parts of an order. The proofs show that the crate `clap`, as its statements
+//! describe it, reads arguments by this definition. They may be changed without anyone above noticing, the
+//! definition may not.
 //!
-//! To be read in this order: specs/Reading.antt (the definition), `order` (what comes out), `usage` (the line that says
-//! how the program is called), `worked` (words read by hand); then the proofs, each on those before it: Chars, Walking,
+//! In reading order: specs/Reading.antt (the definition), `order` (the result), `usage` (the usage line),
+//! `worked` (arguments read by hand); then the proofs, each depending on those before it: Chars, Walking,
 //! Rules, Letters, Forms, Turns, Whole, Command, Ends, Values.
 #![tactic(auto)]
 

@@ -1,11 +1,11 @@
-// What the words ask for, as the program takes it.
+// What the arguments ask for, in the form that the program uses.
 ghost use Rattle.std.specs.Prelude.{◌≡◌};
 ghost use Rattle.cs_arguments.specs.Ranges.{IsFromOneTo};
 
 use cs_base::SampleWidth;
 use std::marker::Model;
 
-/// A whole number from 1 to `MOST`. Contracts see the number.
+/// An integer from 1 to `MOST`. Contracts see the number.
 #[derive(Clone, Copy)]
 pub struct FromOneTo<const MOST: u32> {
     number: u32,
@@ -25,7 +25,7 @@ impl<const MOST: u32> Model for FromOneTo<MOST> {
 }
 
 impl<const MOST: u32> FromOneTo<MOST> {
-    /// This number, from 1 to `MOST`.
+    /// Makes this number, from 1 to `MOST`.
     pub fn new(number: u32) -> FromOneTo<MOST>
         requires { IsFromOneTo MOST number }
         ensures { result ≡ number }
@@ -33,7 +33,7 @@ impl<const MOST: u32> FromOneTo<MOST> {
         FromOneTo { number }
     }
 
-    /// The number, from 1 to `MOST`.
+    /// Returns the number, from 1 to `MOST`.
     pub fn number(self) -> u32
         ensures value { result ≡ self.entry }
         ensures range { IsFromOneTo MOST result }
@@ -42,35 +42,35 @@ impl<const MOST: u32> FromOneTo<MOST> {
     }
 }
 
-/// How many workers share the notes of a cycle.
+/// The number of workers that share the notes of a cycle, from 1 to 32.
 pub type Workers = FromOneTo<32>;
 
-/// How many notes the demo has beside its delay.
+/// The number of notes of the demo besides its delay, from 1 to 10,000.
 pub type DemoNotes = FromOneTo<10_000>;
 
-/// Where orchestra and score come from. No name is empty.
+/// The source of the orchestra and the score. No name is empty.
 #[derive(Clone, Copy)]
 pub enum Source<'w> {
-    /// A file for each.
+    /// One file for each.
     TwoFiles { orchestra: &'w str, score: &'w str },
     /// One file with both, whose name ends in `.csd`.
     OneFile { csd: &'w str },
-    /// The program's own piece, of this number of notes.
+    /// The built-in piece, with this number of notes.
     Demo { notes: DemoNotes },
 }
 
-/// What the words ask for.
+/// What the arguments ask for.
 #[derive(Clone, Copy)]
 pub struct Order<'w> {
     pub workers: Workers,
     /// The name of the sound file, which isn't empty.
     pub sound_file: &'w str,
     pub width: SampleWidth,
-    /// No sound file is written.
+    /// Whether no sound file is written.
     pub silent: bool,
-    /// The report has the turns of each cycle.
+    /// Whether the report contains the turns of each cycle.
     pub turns: bool,
-    /// The workers stay from cycle to cycle.
+    /// Whether the workers stay from cycle to cycle.
     pub pool: bool,
     pub source: Source<'w>,
 }

@@ -1,8 +1,8 @@
-// How the program is called.
+// The usage line.
 ghost use Rattle.std.specs.Prelude.{◌≡◌};
 ghost use Rattle.cs_arguments.specs.Usage.{usage_text};
 
-/// The line that says how the program is called, without its line feed.
+/// Returns the line that says how the program is called, without a line feed.
 pub fn usage_line() -> &'static str
     ensures { result.now ≡ usage_text }
 {

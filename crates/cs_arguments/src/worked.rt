@@ -1,12 +1,12 @@
-// Worked examples: what words mean whose reading is worked out by hand.
+// Worked examples: arguments whose reading is worked out by hand.
 ghost use Rattle.std.specs.Prelude.{◌≡◌, ◌∷◌, [], All, None, Some, codes, true};
 ghost use Rattle.cs_arguments.specs.Reading.{demo, one_file, reading, two_files};
 ghost use Rattle.cs_arguments.specs.Worked.{a_and_b, a_b, empty_names, no_numbers, no_options, piece_alone, twice};
 ghost use Rattle.cs_arguments.specs.Worked.{unwanted_values, without_value, wrong_names};
 ghost use Rattle.cs_base.specs.declared.width.SampleWidth.TheVariants.{ThreeBytes};
 
-/// Words that ask for something: names alone, flags that share a dash with an option, the forms of a value, and words
-/// behind `--`.
+/// For the prover: arguments that ask for something: only names, flags that share a dash with an option, the
+/// forms of a value, and arguments after `--`.
 pub fn words_with_a_reading()
     ensures names { reading a_b ≡ Some (piece_alone a_and_b) }
     ensures csd { reading (codes "x.csd" ∷ codes "--pool" ∷ [])
@@ -28,7 +28,7 @@ pub fn words_with_a_reading()
     ensures one_dash { reading (codes "-" ∷ codes "b" ∷ []) ≡ Some (piece_alone (two_files (codes "-") (codes "b"))) }
 {}
 
-/// Words that have no reading, by what they break.
+/// For the prover: arguments that have no reading, by the rule that they break.
 pub fn words_without_a_reading()
     ensures numbers { All (λ words. reading words ≡ None) no_numbers }
     ensures twice { All (λ words. reading words ≡ None) twice }

@@ -1,4 +1,4 @@
--- What the getters answer where the matches hold uses.
+-- The results of the getters if the matches hold uses.
 use Rattle.std.proofs.Common.{◌≡◌, ◌∙◌, ◌≤◌, ◌<◌, ℕ, Bool, true, false, List, Option, Some, None, Result, is_some}
 use Rattle.std.proofs.Common.{option_map, refl, ap, codes, bytes_eq, arith, true≢false}
 use Rattle.std.specs.{Option.unwrap_or, Str.Parse.ParsesUnsigned}

@@ -1,4 +1,4 @@
--- What clap's answer says of the words.
+-- What clap's result says about the arguments.
 use Rattle.std.proofs.Common.{◌≡◌, ◌∙◌, ◌∷◌, inl, inr, Bool, true, false, cond, List, [], Option, Some, None, Result}
 use Rattle.std.proofs.Common.{Ok, Err, IfOk, is_some, option_and_then, All, IsUtf8, get_or, refl, sym, ap, subst}
 use Rattle.std.proofs.Common.{string_bytes, String, true≢false}
@@ -19,7 +19,7 @@ utf8_texts : (words : List (String Global)) → All IsUtf8 (texts words)
 utf8_texts words = All-map IsUtf8 (λ (w : String Global). string_bytes w) words
     (λ k d lt. IsUtf8-string_bytes (get_or words k d))
 
--- uses of words that are taken stand together
+-- uses of accepted arguments are valid together
 taken_good : (o : Option Said) → accepted o ≡ true → good (uses_or o) ≡ true
 taken_good None e = absurd (true≢false (sym e))
 taken_good (Some s) e = go (is_some s.wants) e
@@ -65,7 +65,7 @@ refused words a r x is kinds e other =
     go (inl memory) = absurd (other memory)
     go (inr among) = not_clear (kind_of x) (fault_of a (texts words)) among
 
--- ---- the reading, by the uses
+-- ---- the reading, from the uses
 
 pub reads : (words : List Text) → is_taken words ≡ true → reading words ≡ asked_by (uses_in words)
 reads words fine = go (said start words) fine

@@ -1,4 +1,4 @@
-// All that may stand, as one command.
+// All options, flags and names, as one command.
 ghost use Rattle.std.specs.Prelude.{◌≡◌, false, IfOk};
 ghost use Rattle.clap.specs.Walk.{Rule};
 ghost use Rattle.clap.specs.Words.{App, app_of, rule_of, with_rule};
@@ -9,7 +9,7 @@ use clap::builder::ValueParser;
 use clap::{Arg, Command};
 use std::alloc::{AllocError, Global};
 
-/// The command that the words are read by.
+/// Returns the command that reads the arguments.
 pub fn command<'w>(alloc: Global) -> Result<Command<'w>, AllocError>
     ensures { IfOk result (λ c. app_of c ≡ the_app) }
 {
@@ -21,7 +21,7 @@ pub fn command<'w>(alloc: Global) -> Result<Command<'w>, AllocError>
     with(command, name(alloc, "SCO"))
 }
 
-// The command with its options and flags of one letter.
+// Returns the command with its options and flags of one letter.
 fn with_letters<'w>(alloc: Global) -> Result<Command<'w>, AllocError>
     ensures { IfOk result (λ c. app_of c ≡ lettered_app) }
 {
@@ -40,7 +40,8 @@ fn with_letters<'w>(alloc: Global) -> Result<Command<'w>, AllocError>
     with(command, letter_flag(alloc, "3", '3'))
 }
 
-// The command without arguments. The words are those behind the program's name, and no word asks for help.
+// Returns the command without options and names. It reads the arguments after the program's name, and no
+// argument asks for help.
 fn bare<'w>(alloc: Global) -> Command<'w>
     ensures { app_of result ≡ bare_app }
 {
@@ -50,7 +51,7 @@ fn bare<'w>(alloc: Global) -> Command<'w>
         .disable_version_flag(true)
 }
 
-// A command with one more argument, where there is a command.
+// Adds an option, flag or name to a command, if there is a command.
 fn with<'a>(
     command: Result<Command<'a>, AllocError>,
     arg: Arg<'a>,

@@ -1,4 +1,4 @@
-// The values of what stood, out of clap's matches.
+// The values of the arguments, from clap's matches.
 ghost use Rattle.std.specs.Prelude.{◌≡◌, List, codes, option_map, unwrap_or};
 ghost use Rattle.cs_arguments.specs.Orders.{asked_in, piece_in};
 ghost use Rattle.cs_arguments.specs.Reading.{Use, asked_by, number_of, piece_of, value_of, width_of};
@@ -8,7 +8,7 @@ use clap::ArgMatches;
 use cs_arguments::{DemoNotes, Order, Source, Workers};
 use cs_base::SampleWidth;
 
-/// The order that the matches hold; None where names and `--demo` don't fit each other.
+/// Returns the order that the matches hold, or None if names and `--demo` don't fit each other.
 pub fn order_of<'w>(matches: &ArgMatches<'w>) -> Option<Order<'w>>
     requires { (uses : List Use) × Holds uses matches.now }
     ensures { (uses : List Use) → Holds uses matches.now → option_map asked_in result ≡ asked_by uses }
@@ -32,7 +32,7 @@ pub fn order_of<'w>(matches: &ArgMatches<'w>) -> Option<Order<'w>>
     }
 }
 
-// Where orchestra and score come from, by the notes of a demo and the names.
+// Returns the source of the orchestra and the score, by the notes of a demo and the names.
 fn source_of<'w>(
     demo: Option<DemoNotes>,
     first: Option<&'w str>,
@@ -51,7 +51,7 @@ fn source_of<'w>(
     }
 }
 
-// How many workers there are, one where `-j` doesn't stand.
+// Returns the number of workers, one without `-j`.
 fn workers_of(matches: &ArgMatches) -> Workers
     requires { (uses : List Use) × Holds uses matches.now }
     ensures { (uses : List Use) → Holds uses matches.now
@@ -63,7 +63,7 @@ fn workers_of(matches: &ArgMatches) -> Workers
     }
 }
 
-// How many notes a demo has.
+// Returns the number of notes of a demo, or None without `--demo`.
 fn notes_of(matches: &ArgMatches) -> Option<DemoNotes>
     requires { (uses : List Use) × Holds uses matches.now }
     ensures { (uses : List Use) → Holds uses matches.now
@@ -75,7 +75,7 @@ fn notes_of(matches: &ArgMatches) -> Option<DemoNotes>
     }
 }
 
-// The name of the sound file, `test.wav` where `-o` doesn't stand.
+// Returns the name of the sound file, `test.wav` without `-o`.
 fn sound_file_of<'w>(matches: &ArgMatches<'w>) -> &'w str
     ensures { (uses : List Use) → Holds uses matches.now
         → result.now ≡ unwrap_or (value_of (codes "o") uses) (codes "test.wav") }

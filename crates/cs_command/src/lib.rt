@@ -1,12 +1,12 @@
-//! Reading the words behind the program's name: what a user types becomes an `Order`, or is refused.
+//! Reading the command-line arguments: the result is an `Order`, or a refusal.
 //!
-//! Its one contract: `read` returns exactly what `reading` says, the definition of cs_arguments. Words are refused only
-//! where they have no reading; where they have none the result is that refusal or out of memory, since reading takes
-//! memory. The crate `clap` reads them, and what it would print of a fault is never printed. How the command is made
-//! may be changed without anyone above noticing.
+//! The one contract: `read` returns exactly what `reading` states, the definition of cs_arguments. Arguments
+//! are refused only if they have no reading; in that case the result is the refusal or out of memory, since
+//! reading allocates memory. The crate `clap` reads them, and the message that it would print about a fault
+//! is never printed. How the command is made may be changed without anyone above noticing.
 //!
-//! To be read in this order: `options` (what may stand), `command` (all of them together), `given` (the values of what
-//! stood), `reading`.
+//! In reading order: `options` (single options, flags and names), `command` (all of them together), `given`
+//! (their values), `reading`.
 #![tactic(auto)]
 
 mod command;

@@ -1,4 +1,4 @@
-// The options, flags and names that may stand.
+// The options, flags and names that the program accepts.
 ghost use Rattle.std.specs.Prelude.{◌≡◌, pos, false, codes, Some, None};
 ghost use Rattle.clap.specs.Words.{rule_of};
 ghost use Rattle.clap.specs.declared.builder.value_parser.ValueParser.TheVariants.{NonEmptyString, Signed};
@@ -8,7 +8,7 @@ use clap::builder::ValueParser;
 use clap::{Arg, ArgAction};
 use std::alloc::Global;
 
-/// A flag of one letter, whose text is the letter.
+/// Returns a flag of one letter, whose text is the letter.
 pub fn letter_flag<'w>(alloc: Global, text: &'w str, letter: char) -> Arg<'w>
     ensures rule { rule_of result ≡ made_flag text.entry.now None (Some letter) }
     ensures local { result.global ≡ false }
@@ -18,7 +18,7 @@ pub fn letter_flag<'w>(alloc: Global, text: &'w str, letter: char) -> Arg<'w>
         .action(ArgAction::SetTrue)
 }
 
-/// A flag with a long name.
+/// Returns a flag with a long name.
 pub fn long_flag<'w>(alloc: Global, name: &'w str) -> Arg<'w>
     ensures rule { rule_of result ≡ made_flag name.entry.now (Some name.entry.now) None }
     ensures local { result.global ≡ false }
@@ -26,7 +26,7 @@ pub fn long_flag<'w>(alloc: Global, name: &'w str) -> Arg<'w>
     Arg::new(alloc, name).long(name).action(ArgAction::SetTrue)
 }
 
-/// An option of one letter, whose text is the letter, and whose values `parser` reads.
+/// Returns an option of one letter, whose text is the letter, and whose values `parser` reads.
 pub fn letter_option<'w>(
     alloc: Global,
     text: &'w str,
@@ -43,7 +43,7 @@ pub fn letter_option<'w>(
         .value_parser(parser)
 }
 
-/// `--demo N`.
+/// Returns the option `--demo N`.
 pub fn demo_option<'w>(alloc: Global) -> Arg<'w>
     ensures rule { rule_of result ≡ made_option (codes "demo") (Some (codes "demo")) None }
     ensures local { result.global ≡ false }
@@ -54,7 +54,7 @@ pub fn demo_option<'w>(alloc: Global) -> Arg<'w>
         .value_parser(from_one_to(10_000))
 }
 
-/// A name: the orchestra's or that of a file with both texts, or the score's.
+/// Returns a name: of the orchestra, of a file with both texts, or of the score.
 pub fn name<'w>(alloc: Global, key: &'w str) -> Arg<'w>
     requires { parser_of key.now ≡ NonEmptyString }
     ensures rule { rule_of result ≡ made_option key.entry.now None None }
@@ -65,7 +65,7 @@ pub fn name<'w>(alloc: Global, key: &'w str) -> Arg<'w>
         .value_parser(ValueParser::NonEmptyString)
 }
 
-/// A whole number from 1 to `most`.
+/// Returns a parser of an integer from 1 to `most`.
 pub fn from_one_to<'w>(most: u16) -> ValueParser<'w>
     ensures { result ≡ Signed (pos 1) (pos most) }
 {

@@ -1,4 +1,4 @@
-// The words behind the program's name, read.
+// Reading the command-line arguments.
 ghost use Rattle.std.specs.Prelude.{IfOk};
 ghost use Rattle.cs_command.specs.{Words.IsRead, Words.texts, inner.Matched.IsMatched};
 
@@ -9,16 +9,16 @@ use clap::error::ErrorKind;
 use cs_arguments::Order;
 use std::alloc::{AllocError, Global};
 
-/// Why there is no order.
+/// The reason why there is no order.
 #[derive(Clone, Copy, Debug, PartialEq, Eq)]
 pub enum Unread {
-    /// The words have no reading.
+    /// The arguments have no reading.
     Usage,
     OutOfMemory,
 }
 
-/// What the words behind the program's name ask for. Usage comes only where they have no reading; where they have none
-/// the result is Usage or OutOfMemory.
+/// Reads what the command-line arguments ask for. The result is Usage only if they have no reading; in that
+/// case it is Usage or OutOfMemory.
 pub fn read<'w>(alloc: Global, words: &'w [String]) -> Result<Order<'w>, Unread>
     ensures { IsRead (texts words.entry.now) result }
 {
@@ -32,7 +32,7 @@ pub fn read<'w>(alloc: Global, words: &'w [String]) -> Result<Order<'w>, Unread>
     }
 }
 
-// What clap makes of the words; None where it refuses them.
+// Returns clap's matches of the arguments, or None if clap refuses them.
 fn matched<'w>(alloc: Global, words: &'w [String]) -> Result<Option<ArgMatches<'w>>, AllocError>
     ensures { IfOk result (λ o. IsMatched (texts words.entry.now) o) }
 {

@@ -29,7 +29,7 @@ chained_behind : (before ls : List Line) → Chained (before ++ ls) → Chained 
 chained_behind [] ls h = h
 chained_behind (l ∷ before) ls h = chained_behind before ls h.1
 
--- a part begins where the line after its opener does
+-- a part begins where the line after its opening line does
 behind_opener : (text : List ℕ) (opener closer m : Line) (ls : List Line) → Leads opener (m ∷ ls) → IsNumbered text m
     → BeginsOnItsLine text (part_between opener closer)
 behind_opener text opener closer m ls h n = sym h.1 ∙ n ∙ ap (λ k. line_after 1 (take k text)) h.0

@@ -1,4 +1,4 @@
--- The scan of lines is their reading.
+-- The scan of lines yields their reading.
 use Rattle.std.proofs.Common.{◌≡◌, ◌≤◌, ◌<◌, ◌-◌, ℕ, true, false, List, [], ◌∷◌, ◌++◌, ◌+◌, length, drop, take, arith}
 use Rattle.std.proofs.Common.{max, Result, Ok, Err, Option, Some, None, unwrap_or, ap, sym, ◌∙◌, refl, subst}
 use Rattle.std.specs.List.{All}
@@ -18,7 +18,7 @@ use Rattle.cs_csd.specs.declared.line.LineMark.TheVariants as mark
 use Rattle.cs_base.specs.declared.fault.CsdKind.TheVariants as kind
 use Rattle.cs_csd.specs.declared.scan.ScanState.TheVariants as state
 
--- a section's part where it is opened
+-- the start of a section's part
 abbrev opens_at : Line → Part
 opens_at l = record { from = l.at + length l.bytes + 1; to = l.at + length l.bytes + 1; line = l.number + 1 }
 
@@ -73,12 +73,12 @@ no_start last (l ∷ ls) a =
     let more = no_start last ls (All-tail (λ l. is_start l.bytes ≡ false) l ls a) in
     rw here more
 
--- after the last tag nothing counts
+-- text after the last tag doesn't count
 after_stop : (last : ℕ) (parts : Parts) (ls : List Line) → scan last (state.Done parts) ls ≡ Ok parts
 after_stop last parts [] = refl
 after_stop last parts (l ∷ ls) = after_stop last parts ls
 
--- what lines come to is what the scan answers
+-- the result of lines is the result of the scan
 is_scan : {last : ℕ} {f : SectionsFound} {ls : List Line} {r : Result Parts CsdFault} → Between last f ls r
     → r ≡ scan last (state.Between f) ls
 is_scan {last} (idle f l ls r m b) = is_scan b ∙ sym (on_mark last f l ls mark.Idle m)
@@ -102,14 +102,14 @@ reading_is text r (begun before start rest r' e a c b) =
     is_scan b ∙ sym (to_start (last_line text) before start rest a c) ∙ sym (ap (scan (last_line text) state.Before) e)
 reading_is text r (never a) = sym (no_start (last_line text) (lines_of 1 text) a)
 
--- one more line at the end of some
+-- one more line at the end of the lines inside
 snoc : (inside : List Line) (l : Line) (ls : List Line) → inside ++ l ∷ ls ≡ (inside ++ l ∷ []) ++ ls
 snoc inside l ls = sym (append_assoc inside (l ∷ []) ls)
 
 all_snoc : (P : Line → Type 0) (inside : List Line) (l : Line) → All P inside → P l → All P (inside ++ l ∷ [])
 all_snoc P inside l a h = All-append P inside (l ∷ []) a (All-cons P l [] h (All-nil P))
 
--- the scan's answer is what lines come to
+-- the result of the scan is the result of the lines
 abbrev Has : ℕ → List Line → Type 0
 Has last ls = (f : SectionsFound) → Between last f ls (scan last (state.Between f) ls)
 
@@ -167,7 +167,7 @@ begins text before (l ∷ ls) e a = by_test (is_start l.bytes)
 pub scan_reads : (text : List ℕ) → Reading text (scan (last_line text) state.Before (lines_of 1 text))
 scan_reads text = begins text [] (lines_of 1 text) refl (All-nil _)
 
--- a text line by line: after its first lines one stands here, and this line is next
+-- a text line by line: the state after its first lines, and the next line
 pub record Read (text : List ℕ) (s : ScanState) (number at : ℕ) : Type 0 where
   pub within : at ≤ length text
   pub few : number ≤ at + 1
@@ -176,7 +176,7 @@ pub record Read (text : List ℕ) (s : ScanState) (number at : ℕ) : Type 0 whe
   pub scan : scan (last_line text) s (lines_from number at (drop at text)) ≡ scan (last_line text) state.Before
       (lines_of 1 text)
 
--- the line at a place, and those after it
+-- the line at an offset, and those after it
 here_and_on : (text : List ℕ) (n at : ℕ) → at < length text
     → lines_from n at (drop at text) ≡ line n at (take (line_len (drop at text)) (drop at text))
     ∷ lines_from (n + 1) (at + next_len (drop at text)) (drop (at + next_len (drop at text)) text)

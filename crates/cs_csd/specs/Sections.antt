@@ -1,4 +1,4 @@
--- How a file is read: what its sections are, or its first fault. Each file has exactly one reading.
+-- How a file is read: as its sections, or as its first fault. Each file has exactly one reading.
 use Rattle.std.specs.Prelude.{◌≡◌, ℕ, Bool, true, false, List, [], ◌∷◌, ◌+◌, ◌++◌, length, Some, None, unwrap_or, take}
 use Rattle.std.specs.{Prelude.Result, Prelude.Ok, Prelude.Err, List.All, Option.is_some}
 use Rattle.cs_csd.specs.{declared.line.Section.Section, declared.part.Part.Part, declared.part.Parts.Parts}
@@ -10,38 +10,41 @@ use Rattle.cs_csd.specs.declared.line.LineMark.TheVariants as mark
 use Rattle.cs_csd.specs.declared.line.Section.TheVariants as section
 use Rattle.cs_base.specs.declared.fault.CsdKind.TheVariants as kind
 
+-- a fault of this kind on a line
 abbrev pub fault : CsdKind → ℕ → CsdFault
 fault k line = record { line = line; kind = k }
 
--- what is between the line that opens a section and the line that closes it
+-- the part between the line that opens a section and the line that closes it
 abbrev pub part_between : Line → Line → Part
 part_between opener closer =
     record { from = opener.at + length opener.bytes + 1; to = closer.at; line = opener.number + 1 }
 
--- the line of a part is that on which the part begins in the file
+-- the line of a part is the line on which the part begins in the file
 abbrev pub BeginsOnItsLine : List ℕ → Part → Type 0
 BeginsOnItsLine text p = p.line ≡ line_after 1 (take p.from text)
 
--- a score that isn't there
+-- the part of a missing score
 abbrev pub no_text : Part
 no_text = record { from = 0; to = 0; line = 1 }
 
--- The sections that stood before: what the options say isn't kept.
+-- no section was found; the text of the options isn't stored
 abbrev pub nothing_found : SectionsFound
 nothing_found = record { options = false; orc = None; sco = None }
 
+-- whether a section was found before
 abbrev pub stood : Section → SectionsFound → Bool
 stood section.Options f = f.options
 stood section.Instruments f = is_some f.orc
 stood section.Score f = is_some f.sco
 
+-- one more section was found
 abbrev pub with_section : Section → Part → SectionsFound → SectionsFound
 with_section section.Options p f = record f { options = true }
 with_section section.Instruments p f = record f { orc = Some p }
 with_section section.Score p f = record f { sco = Some p }
 
--- What lines after the first tag come to, where these sections stood before them and the file's last line has this
--- number.
+-- The result of the lines after the first tag, if these sections were found before them and the file's last
+-- line has this number.
 pub data Between (last : ℕ) : SectionsFound → List Line → Result Parts CsdFault → Type 0 where
   idle : (f : SectionsFound) (l : Line) (ls : List Line) (r : Result Parts CsdFault)
       → mark_of l.bytes ≡ mark.Idle → Between last f ls r → Between last f (l ∷ ls) r
@@ -66,7 +69,7 @@ pub data Between (last : ℕ) : SectionsFound → List Line → Result Parts Csd
       → Between last f (opener ∷ inside) (Err (fault kind.MissingTag last))
   cut : (f : SectionsFound) → Between last f [] (Err (fault kind.MissingTag last))
 
--- What a file comes to: whatever stands before its first tag doesn't count.
+-- The result of a file: the text before its first tag doesn't count.
 pub data Reading (text : List ℕ) : Result Parts CsdFault → Type 0 where
   begun : (before : List Line) (start : Line) (rest : List Line) (r : Result Parts CsdFault)
       → lines_of 1 text ≡ before ++ start ∷ rest → All (λ l. is_start l.bytes ≡ false) before

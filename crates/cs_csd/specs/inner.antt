@@ -1,2 +1,2 @@
--- What private clauses alone cite.
+-- Definitions that only private clauses cite.
 pub mod Scan

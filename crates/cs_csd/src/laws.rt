@@ -1,24 +1,25 @@
-// What holds of every file, and worked examples: calls that do nothing, whose contracts are the laws.
+// What holds for every file, and worked examples: calls that do nothing as they run, whose contracts are the
+// laws.
 ghost use Rattle.std.specs.Prelude.{◌≡◌, ℕ, List, Result, Ok, Err, codes, ◌++◌};
 ghost use Rattle.cs_csd.specs.Sections.{BeginsOnItsLine, Reading, fault};
 ghost use Rattle.cs_base.specs.declared.fault.CsdFault.{CsdFault};
 ghost use Rattle.cs_base.specs.declared.fault.CsdKind.TheVariants as kind;
 ghost use Rattle.cs_csd.specs.declared.part.Parts.{Parts};
 
-/// Each file has a reading, and no two.
+/// For the prover: each file has exactly one reading.
 pub fn one_reading()
     ensures some { (text : List ℕ) → (r : Result Parts CsdFault) × Reading text r }
     ensures one { (text : List ℕ) (r s : Result Parts CsdFault) → Reading text r → Reading text s → r ≡ s }
 {}
 
-/// The parts of a file begin on the lines that they name.
+/// For the prover: the parts of a file begin on the lines that they name.
 pub fn parts_begin_on_their_lines()
     ensures { (text : List ℕ) (p : Parts) → Reading text (Ok p)
         → BeginsOnItsLine text p.orc × BeginsOnItsLine text p.sco }
 {}
 
-/// Files of docs/LANGUAGE.md, read by hand: what stands before and after the two outer tags doesn't count, and places
-/// and lines are those of the file.
+/// For the prover: files of docs/LANGUAGE.md, read by hand. Text before and after the two outer tags doesn't
+/// count, and offsets and lines count from the start of the file.
 pub fn files_worked_by_hand()
     ensures parts { Reading
         (codes "a\n<CsoundSynthesizer>\n<CsInstruments>\nsr = 8\n</CsInstruments>\n"

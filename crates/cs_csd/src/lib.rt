@@ -1,11 +1,11 @@
-//! One file with an orchestra and a score, as Csound's `.csd` files have them: where each text stands.
+//! One file with an orchestra and a score, like Csound's `.csd` files: the offsets of both texts.
 //!
-//! Its one contract: `split_csd` returns the parts of a file as specs/Sections.antt reads it, or the first fault of
-//! its tags with its line; each file has exactly one reading (`one_reading`), and parts begin on the lines that they
-//! name (`parts_begin_on_their_lines`). It can't be out of memory. How it goes along the lines (`scan`, specs/inner)
-//! may be changed without anyone above noticing.
+//! The one contract: `split_csd` returns the parts of a file as specs/Sections.antt reads it, or the first
+//! fault of its tags with its line; each file has exactly one reading (`one_reading`), and parts begin on the
+//! lines that they name (`parts_begin_on_their_lines`). It allocates nothing. How it goes through the lines
+//! (`scan`, specs/inner) may be changed without anyone above noticing.
 //!
-//! To be read in this order: `part` (what comes out), `line` (what a line says), `scan` (line after line), `split`,
+//! In reading order: `part` (the result), `line` (the kinds of lines), `scan` (line after line), `split`,
 //! `laws`.
 #![tactic(auto)]
 

@@ -1,4 +1,4 @@
-// A line of a file, and what it says.
+// A line of a file, and its kind.
 ghost use Rattle.std.specs.{List.list_all, Prelude.◌≡◌};
 ghost use Rattle.cs_base.specs.Lines.{is_blank};
 ghost use Rattle.cs_csd.specs.Lines.{after_blanks, closing, is_idle, is_start, is_tag, mark_of, opening};
@@ -13,21 +13,21 @@ pub enum Section {
     Score,
 }
 
-/// What a line between sections says.
+/// The kind of a line between sections.
 #[derive(Clone, Copy)]
 pub enum LineMark {
-    /// Nothing: it has blanks alone, or is a comment.
+    /// A line that has only blanks, or is a comment.
     Idle,
-    /// A section is opened.
+    /// A line that opens a section.
     Opens(Section),
     /// The last line that is read.
     Stop,
-    /// What the profile doesn't have.
+    /// A line that the profile doesn't have.
     Other,
 }
 
 impl Section {
-    // The tag that opens it.
+    // Returns the tag that opens the section.
     fn opening(self) -> &'static [u8]
         ensures { result.now ≡ opening self }
     {
@@ -38,7 +38,7 @@ impl Section {
         }
     }
 
-    /// The tag that closes it.
+    /// Returns the tag that closes the section.
     pub fn closing(self) -> &'static [u8]
         ensures { result.now ≡ closing self }
     {
@@ -50,7 +50,7 @@ impl Section {
     }
 }
 
-/// What a line between sections says.
+/// Returns the kind of a line between sections.
 pub fn mark_of(bytes: &[u8]) -> LineMark
     ensures { result ≡ mark_of bytes.now }
 {
@@ -69,14 +69,14 @@ pub fn mark_of(bytes: &[u8]) -> LineMark
     }
 }
 
-/// Whether a line is the first that is read.
+/// Returns whether a line is the first that is read.
 pub fn is_start(bytes: &[u8]) -> bool
     ensures { result ≡ is_start bytes.now }
 {
     is_tag(b"<CsoundSynthesizer>", bytes)
 }
 
-/// Whether a line is a tag, with blanks alone before and after it.
+/// Returns whether a line is a tag, with only blanks before and after it.
 pub fn is_tag(tag: &[u8], bytes: &[u8]) -> bool
     ensures { result ≡ is_tag tag.now bytes.now }
 {
@@ -84,7 +84,7 @@ pub fn is_tag(tag: &[u8], bytes: &[u8]) -> bool
     text.starts_with(tag) && all_blank(&text[tag.len()..])
 }
 
-// Whether a line has blanks alone, or is a comment.
+// Returns whether a line has only blanks, or is a comment.
 fn is_idle(bytes: &[u8]) -> bool
     ensures { result ≡ is_idle bytes.now }
 {

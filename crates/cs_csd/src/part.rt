@@ -1,6 +1,7 @@
-// What comes out of a file with both texts.
+// The parts of a file with both texts.
 
-/// A text within a file: the places of its first byte and after its last, and the number of its first line.
+/// A text within a file: the offset of its first byte, the offset after its last byte, and the number of its
+/// first line, counted from 1.
 #[derive(Clone, Copy)]
 pub struct Part {
     pub from: u32,
@@ -8,7 +9,7 @@ pub struct Part {
     pub line: u32,
 }
 
-/// The orchestra and the score of a file. A score that isn't there is the empty text at the file's front.
+/// The orchestra and the score of a file. A missing score is the empty text at the start of the file.
 #[derive(Clone, Copy)]
 pub struct Parts {
     pub orc: Part,

@@ -1,4 +1,4 @@
-// Where one stands in a file, line after line.
+// The state of the reader, line after line.
 ghost use Rattle.std.specs.Prelude.{◌≡◌, ◌≤◌, ◌+◌, length};
 ghost use Rattle.cs_base.specs.{Limits.most_csd_bytes, Lines.line};
 ghost use Rattle.cs_csd.specs.Lines.{mark_of};
@@ -9,7 +9,7 @@ use crate::line::{LineMark, Section, is_start, is_tag, mark_of};
 use crate::{Part, Parts};
 use cs_base::{CsdFault, CsdKind};
 
-/// The sections that stood before; what the options say isn't kept.
+/// The sections that were found before; the text of the options isn't stored.
 #[derive(Clone, Copy)]
 pub struct SectionsFound {
     pub options: bool,
@@ -17,21 +17,21 @@ pub struct SectionsFound {
     pub sco: Option<Part>,
 }
 
-/// Where one stands.
+/// The state of the reader.
 #[derive(Clone, Copy)]
 pub enum ScanState {
     /// Before the first tag.
     Before,
     /// Between sections.
     Between(SectionsFound),
-    /// In a section, whose text begins as the part says.
+    /// In a section, whose text begins at the part's start.
     Inside(SectionsFound, Section, Part),
     /// After the last tag.
     Done(Parts),
 }
 
 impl SectionsFound {
-    /// No section stood before.
+    /// Makes the state in which no section was found.
     pub fn nothing() -> SectionsFound
         ensures { result ≡ nothing_found }
     {
@@ -42,7 +42,7 @@ impl SectionsFound {
         }
     }
 
-    // Whether a section stood before.
+    // Returns whether a section was found before.
     fn has(&self, section: Section) -> bool
         ensures { result ≡ stood section self.now }
     {
@@ -53,7 +53,7 @@ impl SectionsFound {
         }
     }
 
-    // With one more section.
+    // Adds a section to those that were found.
     fn with(self, section: Section, part: Part) -> SectionsFound
         ensures { result ≡ with_section section part self }
     {
@@ -68,7 +68,7 @@ impl SectionsFound {
 }
 
 impl ScanState {
-    /// Where one stands after a line of this number, whose first byte has this place.
+    /// Returns the state after a line with this number, whose first byte is at offset `at`.
     pub fn step(self, number: u32, at: u32, bytes: &[u8]) -> Result<ScanState, CsdFault>
         requires place { at + length bytes.now ≤ most_csd_bytes }
         requires number { number ≤ most_csd_bytes + 1 }
@@ -86,7 +86,7 @@ impl ScanState {
         }
     }
 
-    /// What the file comes to that ends here, and whose last line has this number.
+    /// Returns the result of a file that ends here, and whose last line has this number.
     pub fn finish(self, last: u32) -> Result<Parts, CsdFault>
         ensures { result ≡ finish last self }
     {
@@ -97,7 +97,7 @@ impl ScanState {
     }
 }
 
-// What a line between sections leads to.
+// Returns the state after a line between sections.
 fn between(found: SectionsFound, number: u32, at: u32, bytes: &[u8]) -> Result<ScanState, CsdFault>
     requires place { at + length bytes.now ≤ most_csd_bytes }
     requires number { number ≤ most_csd_bytes + 1 }
@@ -111,7 +111,7 @@ fn between(found: SectionsFound, number: u32, at: u32, bytes: &[u8]) -> Result<S
     }
 }
 
-// A section is opened, whose text begins at a place, in the line after this one.
+// Returns the state after a line that opens a section, whose text begins on the next line.
 fn opened(
     section: Section,
     number: u32,
@@ -132,7 +132,7 @@ fn opened(
     Ok(ScanState::Inside(found, section, part))
 }
 
-// The last line that is read.
+// Returns the state after the last line that is read.
 fn stopped(number: u32, found: SectionsFound) -> Result<ScanState, CsdFault>
     ensures { result ≡ stopped number found found.orc }
 {

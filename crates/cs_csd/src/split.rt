@@ -1,4 +1,4 @@
-// The whole file.
+// The complete file.
 ghost use Rattle.std.specs.Prelude.{◌≤◌, length};
 ghost use Rattle.cs_base.specs.Limits.{most_csd_bytes};
 ghost use Rattle.cs_csd.specs.Sections.{Reading};
@@ -7,7 +7,8 @@ use crate::Parts;
 use crate::scan::ScanState;
 use cs_base::{CsdFault, line_len, next_len};
 
-/// Where the orchestra and the score stand in a file, or the first fault of its tags. It can't be out of memory.
+/// Returns the offsets of the orchestra and the score in a file, or the first fault of its tags. It allocates
+/// nothing.
 pub fn split_csd(text: &[u8]) -> Result<Parts, CsdFault>
     requires { length text.now ≤ most_csd_bytes }
     ensures { Reading text.now result }

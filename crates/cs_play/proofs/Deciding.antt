@@ -20,13 +20,14 @@ one_asked o a b e h = cc
 pub no_asked : (o : Option Asked) (a : Asked) → o ≡ None → o ≡ Some a → ⊥
 no_asked o a e h = cc
 
--- what is so of one thing that the words ask for is so of what they ask for
+-- what holds for some request that the arguments make holds for the one that they make
 pub the_asked : (words : List Text) (P : Asked → Type 0) (asked : Asked) → reading words ≡ Some asked → Reads words P
     → P asked
 the_asked words P asked e r = subst P (one_asked (reading words) r.0 asked r.1 e) r.2
 
--- How a run ended, by what came of its words and its source: a composition, a refusal, a name that can't be read, words
--- that ask for nothing; or memory was refused. A composition is heard and reported whole, unless a sink failed.
+-- How a run ended, by its arguments and its source: a composition, a refusal, a name that can't be read,
+-- arguments without a reading; or memory ran out. A composition is heard and reported completely, unless a
+-- sink failed.
 pub data EndedBy {F K T B C : Type 0} (see : Sight F K T B C) (words : List Text) (before now : Scene F K T B C)
     (s : Status) : Type 0 where
   by_sound : (c : Composition) → Reads words (λ a. HasLoaded see a before now (Ok c))
@@ -57,7 +58,7 @@ module _ {F K T B C : Type 0} (see : Sight F K T B C) (words : List Text) (befor
   ended_by (status.Limit l) h = by_refusal (why.Limit l) refl h.unprepared.cause
   ended_by (status.CsdRefused f) h = by_refusal (why.Csd f) refl h.unprepared.cause
 
-  -- WORDS that ask for nothing
+  -- ARGUMENTS without a reading
   asks_nothing : reading words ≡ None → (P : Asked → Type 0) → Reads words P → ⊥
   asks_nothing e P h = no_asked (reading words) h.0 e h.1
 
@@ -69,7 +70,7 @@ module _ {F K T B C : Type 0} (see : Sight F K T B C) (words : List Text) (befor
   unread_ends s e (by_words is none) = inl is
   unread_ends s e (by_memory is) = inr is
 
-  -- WORDS that ask for this
+  -- ARGUMENTS with this reading
   module _ (asked : Asked) (e : reading words ≡ Some asked) where
     pub loaded : (r : Result Composition Refusal) → Reads words (λ a. HasLoaded see a before now r)
         → SourceMeans (see.shelf before.shelf) asked.width asked.piece r
@@ -81,7 +82,7 @@ module _ {F K T B C : Type 0} (see : Sight F K T B C) (words : List Text) (befor
     unread name h = the_asked words (λ a. CannotRead (see.shelf before.shelf) (see.shelf now.shelf) a.piece name) asked
         e h
 
-    -- A NAME that is lacking: nothing was loaded
+    -- A NAME that is missing: nothing was loaded
     lacking_ends : NoneLacking → (s : Status) (name : List ℕ)
         → LackWhereTold (see.shelf before.shelf).files asked.piece name → Ended s
         → (s ≡ status.ShelfFault) ⊎ (s ≡ status.OutOfMemory)
@@ -93,7 +94,8 @@ module _ {F K T B C : Type 0} (see : Sight F K T B C) (words : List Text) (befor
     lacking_ends none s name lack (by_words is blank) = absurd (no_asked (reading words) asked blank e)
     lacking_ends none s name lack (by_memory is) = inr is
 
-    -- TEXTS that are known: what was loaded is what they mean, and the shelf can't read only where it failed
+    -- TEXTS that are known: what was loaded is what they mean, and the shelf can't read them only if it
+    -- failed
     module _ (meaning : OneMeaning) (pair : OnePair) (none : NoneLacking) (t : Texts)
         (known : AreTexts (see.shelf before.shelf).files asked.piece t)
         (calm : ¬ (Rose (see.shelf before.shelf).faults (see.shelf now.shelf).faults)) where

@@ -1,4 +1,4 @@
--- What the texts of a run mean, where they are known.
+-- What the texts of a run mean, if they are known.
 use Rattle.std.proofs.Common.{◌≡◌, ℕ, List, Option, Some, None, Result, Ok, Err, ap, sym, subst, ◌∙◌, ⊎_elim}
 use Rattle.cs_piece_meaning.specs.Moments.{Composition}
 use Rattle.cs_edge.specs.{Files.ShelfTold, Told.Rose, declared.files.NamedBytes.NamedBytes}
@@ -8,7 +8,7 @@ use Rattle.cs_source.specs.{Loaded.CannotRead, Loaded.SourceMeans, Meaning.Mean}
 use Rattle.cs_source.specs.Texts.{Texts, both, csd, demo_notes, Fit, Have, HaveWhereTold, Lack, LackWhereTold}
 use Rattle.cs_base.specs.{declared.width.SampleWidth.SampleWidth, declared.refusal.Refusal.Refusal}
 
--- texts have one meaning; files have one pair of texts; and what files lack they don't have
+-- texts have exactly one meaning; files have exactly one pair of texts; and files don't have what they lack
 abbrev pub OneMeaning : Type 0
 OneMeaning = (width : SampleWidth) (t : Texts) (r s : Result Composition Refusal) → Mean width t r → Mean width t s
     → r ≡ s
@@ -25,7 +25,7 @@ demo_texts n (both a b) f = absurd f
 demo_texts n (csd a) f = absurd f
 demo_texts n (demo_notes m) f = ap demo_notes (sym f)
 
--- the texts that are known are those of the source
+-- the texts that are known are the source's texts
 same_texts : OnePair → (files : Option (List NamedBytes)) (piece : AskedPiece) (t u : Texts) → AreTexts files piece t
     → Fit piece u
     → HaveWhereTold files piece u → t ≡ u
@@ -49,7 +49,7 @@ pub source_means : OneMeaning → OnePair
 source_means meaning pair told width piece t r s known mean source =
     meaning width t r s mean (known_means pair told width piece t s known source)
 
--- and none of them is lacking
+-- none of the known texts is missing
 known_lack : NoneLacking → (files : Option (List NamedBytes)) (piece : AskedPiece) (t : Texts) (name : List ℕ)
     → AreTexts files piece t
     → LackWhereTold files piece name → ⊥
@@ -58,7 +58,7 @@ known_lack none (Some files) (demo n) t name known lack = absurd lack
 known_lack none (Some files) (two_files orc sco) t name known lack = none files (two_files orc sco) t name lack known
 known_lack none (Some files) (one_file csd_name) t name known lack = none files (one_file csd_name) t name lack known
 
--- so that a name can't be read only where the shelf failed
+-- so a name can't be read only if the shelf failed
 pub known_unread : NoneLacking → (told now : ShelfTold) (piece : AskedPiece) (t : Texts) (name : List ℕ)
     → AreTexts told.files piece t
     → CannotRead told now piece name → Rose told.faults now.faults
@@ -71,14 +71,14 @@ have_lack : NoneLacking → (files : Option (List NamedBytes)) (piece : AskedPie
 have_lack none None piece t name have lack = lack
 have_lack none (Some files) piece t name have lack = none files piece t name lack have
 
--- texts of a source aren't lacking
+-- texts of a source aren't missing
 pub source_lacks : NoneLacking
     → (told : ShelfTold) (width : SampleWidth) (piece : AskedPiece) (r : Result Composition Refusal) (name : List ℕ)
     → SourceMeans told width piece r → LackWhereTold told.files piece name → ⊥
 source_lacks none told width piece r name source lack =
     have_lack none told.files piece source.texts name source.have lack
 
--- two sources that tell alike have the same texts
+-- two sources that tell the same have the same texts
 alike_texts : OnePair → (a b : Option (List NamedBytes)) (piece : AskedPiece) (t u : Texts) → TellAlike piece a b
     → Fit piece t → Fit piece u
     → HaveWhereTold a piece t → HaveWhereTold b piece u → t ≡ u
@@ -98,7 +98,7 @@ alike_means meaning pair told told' width piece r s alike source source' =
     source.have source'.have) source.mean)
     source'.mean
 
--- answers that are the same have the same value
+-- equal results have the same value
 pub same_refusal : (r s : Refusal) → (let a : Result Composition Refusal = Err r in a) ≡ Err s → r ≡ s
 same_refusal r s e = cc
 

@@ -1,4 +1,4 @@
--- How a piece comes to be prepared, or not: one lemma for each way out.
+-- How a piece is prepared, or isn't: one lemma for each return.
 use Rattle.std.proofs.Common.{◌≡◌, ℕ, List, [], Some, None, Ok, Err, refl, ap, sym, subst, ◌∙◌}
 use Rattle.cs_base.specs.declared.refusal.Refusal.{Refusal}
 use Rattle.cs_edge.specs.{Files.ShelfTold, Moves.SinkTold}
@@ -16,7 +16,7 @@ use Rattle.cs_report.specs.declared.status.Status.TheVariants as status
 use Rattle.cs_source.specs.declared.loading.LoadFault.TheVariants as unloaded
 
 module _ {F : Type 0} (tells : F → ShelfTold) (words : List Text) (before now : F) where
-  -- a piece of an order that the words ask for
+  -- a piece for an order that the arguments ask for
   pub is_prepared : (p : Prepared) → reading words ≡ Some (asked_in p.order)
       → IsLoaded (tells before) (tells now) p.order.width (piece_in p.order.source) (Ok (composition_of p.setup))
       → IsPrepared tells words before now p
@@ -28,14 +28,14 @@ module _ {F : Type 0} (tells : F → ShelfTold) (words : List Text) (before now 
     abbrev Ends : Status → Type 0
     Ends s = IsUnprepared tells s words before now talk talk'
 
-    -- a status is what it was said to be
+    -- the status is the one that was printed
     ends_as : (r s : Status) (name : List ℕ) → r ≡ s → HasNoPiece tells s name words before now
         → Says talk talk' (message_of r name) → Ends r
     ends_as r s name e cause says =
         let P : Status → Type 0 = λ x. HasNoPiece tells x name words before now in
         record { name = name; cause = subst P (sym e) cause; line = says }
 
-    -- words that aren't read
+    -- arguments that can't be read
     by_unread : (u : Unread) (r : Status) → r ≡ unread_status u → (u ≡ unasked.Usage → reading words ≡ None)
         → now ≡ before
         → Says talk talk' (message_of r []) → Ends r
@@ -51,7 +51,7 @@ module _ {F : Type 0} (tells : F → ShelfTold) (words : List Text) (before now 
     by_refusal (why.Score f) name is = is
     by_refusal (why.Limit h) name is = is
 
-    -- a source that isn't read, or is refused
+    -- a source that can't be read, or is refused
     module _ (asked : Asked) (e : reading words ≡ Some asked) where
       abbrev Refuses : Refusal → Type 0
       Refuses r = IsLoaded (tells before) (tells now) asked.width asked.piece (Err r)
@@ -75,7 +75,7 @@ module _ {F : Type 0} (tells : F → ShelfTold) (words : List Text) (before now 
           ends_as r (load_status s) (name_in s) h.status_is (by_cause s means unread calm)
           (subst P (sym h.status_is) h.line)
 
--- words that aren't read: the shelf had no call
+-- arguments that can't be read: the shelf received no call
 pub unasked_ends : {F : Type 0} (tells : F → ShelfTold) (words : List Text) (shelf : F) (talk talk' : SinkTold)
     (u : Unread) (r t : Status)
     → r ≡ t → t ≡ unread_status u → (u ≡ unasked.Usage → reading words ≡ None) → Says talk talk' (message_of t [])

@@ -1,4 +1,4 @@
--- What comes of a run stands on the page.
+-- The result of every run is on the page.
 use Rattle.std.proofs.Common.{◌≡◌, ◌≢◌, ◌⊎◌, ℕ, List, [], Bool, true, false, Some, Ok, Err, refl, ap, ⊎_elim, inl, inr}
 use Rattle.cs_arguments.specs.Reading.{Asked, Text, reading}
 use Rattle.cs_base.specs.{declared.head.Head.Head, declared.refusal.Refusal.Refusal}
@@ -52,7 +52,7 @@ module _ {F K T B C : Type 0} (see : Sight F K T B C) (words : List Text) (befor
     was_read : HasRead words a.shelf b.shelf asked l.means.texts
     was_read = record { asked = e; fit = l.means.fit; have = l.means.have; same = l.same }
 
-    -- its sound, whole, or with `-n` nowhere
+    -- its sound, complete, or with `-n` not written
     whole : WasPerformed see asked c before now
         → Sounds asked.silent asked l.means.texts a.file b.file (Finished a.file b.file asked.sound_file)
     whole p = by asked.silent p.whole.written
@@ -68,7 +68,7 @@ module _ {F K T B C : Type 0} (see : Sight F K T B C) (words : List Text) (befor
           w,
         )
 
-  -- What memory leaves that ran out: no call on the sound file, or a front of the sound in it.
+  -- The file after memory ran out: no call was made on it, or it has a prefix of the sound.
   abbrev CutOff : Type 0
   CutOff = (b.file ≡ a.file) ⊎ ((x : Asked) × (t : Texts) × (sound front : List ℕ) × HasRead words a.shelf b.shelf x t
       × IsSoundOf t x.width sound × IsFront front sound × (x.silent ≡ false) × Wrote a.file b.file x.sound_file front)

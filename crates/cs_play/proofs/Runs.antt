@@ -1,4 +1,4 @@
--- How a run ends: one lemma for each way out.
+-- How a run ends: one lemma for each return.
 use Rattle.std.proofs.Common.{◌≡◌, ◌++◌, ◌*◌, ℕ, List, [], Bool, true, false, Result, Some, Ok, Err, refl, ap, ◌∙◌, inl}
 use Rattle.std.proofs.Common.{inr, if◌then◌else◌}
 use Rattle.std.specs.{List.count_by, List.flat_map, Result.IfErr, Result.IfOk, Result.OnOk}
@@ -30,7 +30,7 @@ same_lines : (a b c d e a' b' c' d' e' : ℕ) → a ≡ a' → b ≡ b' → c �
     → count_lines a b c d e ≡ count_lines a' b' c' d' e'
 same_lines a b c d e a' b' c' d' e' p q r s t = cc
 
--- the counts that the performer answered are those of the composition
+-- the counts that the performer returned are the composition's counts
 same_counts : (c : Composition) (width : SampleWidth) (o : Outcome) → IsOutcomeOf c width o
     → counts_in (counts_told o) ≡ counts_of c width
 unfolding counts_of
@@ -40,7 +40,7 @@ same_counts c width o is =
     (closing c).not_started (count_by (is_out_of_range width c.head.dbfs) (frames_of c))
     is.frames is.cycles is.started is.not_started is.out_of_range
 
--- the lines of turns, where they are asked for
+-- the lines of turns, if they are asked for
 told_lines : (turns : Bool) (bytes : List ℕ) → if_told (lines_of turns) bytes ≡ (if turns then bytes else [])
 told_lines true bytes = refl
 told_lines false bytes = refl
@@ -82,7 +82,7 @@ module _ {F K T B C : Type 0} (see : Sight F K T B C) where
       ∙ ap (λ (l : List ℕ). counts_of c asked.width ++ flat_map (λ tap. see.line tap line_room) taps ++ l)
       (lines ∙ told_lines asked.turns (turn_lines_of c))
 
-  -- The piece of a source that was performed. The shelf has no part in its performance.
+  -- The piece of a source that was performed. The performance doesn't use the shelf.
   module _ (words : List Text) (asked : Asked) (c : Composition) (head : Head) (shelf shelf' : F) (wav wav' : K)
       (talk talk' : T) (taps taps' : List B) (tally tally' : C) (e : reading words ≡ Some asked)
       (same : header_of_head head ≡ c.head)
@@ -96,7 +96,7 @@ module _ {F K T B C : Type 0} (see : Sight F K T B C) where
     abbrev request : Request
     request = request_in asked c head
 
-    -- whole, and then reported
+    -- a complete performance, and then its report
     whole_ends : (o : Outcome) (s : Status)
         → IsWholePerformance (sees_lent see) request (lent wav taps tally) (lent wav' taps' tally')
         → IsOutcomeOf c asked.width o → o.turns ≡ if_told (lines_of asked.turns) (turn_lines_of c)
@@ -125,7 +125,7 @@ module _ {F K T B C : Type 0} (see : Sight F K T B C) where
     )
     whole_ends o s whole is lines never = absurd never
 
-    -- in part
+    -- a performance that stopped early
     part_ends : (f : PlayFault) → IsPart (sees_lent see) request (lent wav taps tally) (lent wav' taps' tally')
         → (f ≡ fault.OutOfMemory → IsPaused (sees_lent see) request (lent wav taps tally) (lent wav' taps' tally'))
         → (f ≡ fault.Sink → (output_of asked.silent ≡ SoundFile) × Rose (see.wav wav).faults (see.wav wav').faults)
@@ -157,8 +157,8 @@ module _ {F K T B C : Type 0} (see : Sight F K T B C) where
       line = says;
     }
 
-  -- What was prepared, a piece or what keeps the run from its sound, was performed, and what came of it said. Talk is
-  -- `mid` between the two.
+  -- What was prepared, a piece or the reason why there is none, was performed, and the result printed. `mid`
+  -- is the state of `talk` between the two.
   pub prepared_run : (words : List Text) (p : Result Prepared Status) (played : Played) (r : Status) (shelf shelf' : F)
       (wav wav' : K) (talk mid talk' : T) (taps taps' : List B) (tally tally' : C)
       → IsReadFor see.shelf words shelf shelf'

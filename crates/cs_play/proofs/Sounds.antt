@@ -1,4 +1,4 @@
--- What a sink holds after a run: the sound of its texts, or a front of it.
+-- The contents of a sink after a run: the sound of its texts, or a prefix of it.
 use Rattle.std.proofs.Common.{◌≡◌, ◌⊎◌, ◌≤◌, ℕ, Bool, true, false, List, Option, Result, Some, None, Ok, Err, refl, ap}
 use Rattle.std.proofs.Common.{sym, subst, ◌∙◌, ⊎_elim, inl, inr}
 use Rattle.cs_base.specs.{declared.head.Head.Head, declared.refusal.Refusal.Refusal}
@@ -62,13 +62,13 @@ pub never_both : OneMeaning → (t : Texts) (width : SampleWidth) (bytes : List 
     → Mean width t (Err r) → ⊥
 never_both one t width bytes r x h = refused_composition x.c r (one width t (Ok x.c) (Err r) x.means h)
 
--- FRONTS OF A FILE
+-- PREFIXES OF A FILE
 
 abbrev pub AreFronts : Type 0
 AreFronts = (c : Composition) (head : Head) (width : SampleWidth) (n : ℕ) → n ≤ c.cycles
     → IsFront (file_after c head width n) (wav_of (frames_of c) head width)
 
--- the header and the samples of the first cycles are a front of it
+-- the header and the samples of the first cycles are a prefix of the file
 pub front_is : AreFronts → (c : Composition) (head : Head) (width : SampleWidth) (n : ℕ) → n ≤ c.cycles
     → IsFront (front_after c head width n) (wav_of (frames_of c) head width)
 front_is fronts c head width n le =
@@ -76,12 +76,12 @@ front_is fronts c head width n le =
     (front_in_file c head width n)
     (fronts c head width n le)
 
--- WHAT A SINK HOLDS that was written
+-- THE CONTENTS OF A SINK that was written
 
 some_is : (x y : Held) → Some x ≡ Some y → x ≡ y
 some_is x y e = cc
 
--- what is told after was told before, and goes together with it
+-- what is told afterwards was told before, and the two go together
 told_both : (P : Held → Held → Type 0) (a b : Option Held) (y : Held) → b ≡ Some y → Follows a b P
     → (x : Held) × (a ≡ Some x) × P x y
 told_both P None None y e f = absurd (cc)
@@ -89,7 +89,7 @@ told_both P (Some x) None y e f = absurd (cc)
 told_both P None (Some z) y e f = absurd f
 told_both P (Some x) (Some z) y e f = (x, refl, subst (P x) (some_is z y e) f)
 
--- what a sink is known to hold that tells it
+-- the known contents of a sink that tells them
 finished_is : (before now : SinkTold) (y : Held) (name bytes : List ℕ) → now.held ≡ Some y
     → Finished before now name bytes → y ≡ ended_file name bytes
 finished_is before now y name bytes e h =
@@ -171,7 +171,7 @@ module _ {F K T B C : Type 0} (see : Sight F K T B C) (pair : OnePair) (words : 
   untouched : now.wav ≡ before.wav → Front
   untouched same = inl (ap (λ (k : K). (see.wav k).held) (sym same) ∙ holds)
 
-  -- where silence is asked for the sink had no call
+  -- if silence is asked for, the sink received no call
   written_front : (P : SinkTold → SinkTold → Type 0) → (P (see.wav before.wav) (see.wav now.wav) → Front)
       → IfWritten see.wav (output_of asked.silent) before.wav now.wav P → Front
   written_front P f w = by asked.silent w

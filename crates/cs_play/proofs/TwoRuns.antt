@@ -24,7 +24,7 @@ use Rattle.cs_report.specs.declared.status.Status.TheVariants as status
 
 -- THE SAME FILE
 
--- a sink that tells what it holds holds these bytes
+-- a sink that tells its contents has these bytes
 abbrev HoldsWhereTold : Option Held → List ℕ → Type 0
 HoldsWhereTold None bytes = Unit {0}
 HoldsWhereTold (Some x) bytes = x.bytes ≡ bytes
@@ -50,7 +50,7 @@ pub written_is : {W : Type 0} (tells : W → SinkTold) (silent : Bool) (before n
 written_is tells true before now P e w = absurd (let h : true ≡ false = e in cc)
 written_is tells false before now P e w = w
 
--- a file is known by its frames and by the numbers of its header
+-- a file is determined by its frames and by the numbers of its header
 same_numbers : (frames : List ℤ) (width : SampleWidth) (a b : Head) → a.sr ≡ b.sr → a.nchnls ≡ b.nchnls
     → a.dbfs ≡ b.dbfs → wav_of frames a width ≡ wav_of frames b width
 unfolding wav_of header_bytes
@@ -62,7 +62,7 @@ same_wav frames width a b e =
     same_numbers frames width a b (ap (λ (h : Header). h.sr) e) (ap (λ (h : Header). h.nchnls) e)
     (ap (λ (h : Header). h.dbfs) e)
 
--- what a source means, asked for alike
+-- what a source means, for two requests for the same piece
 means_as : (told : ShelfTold) (a b : Asked) (r : Result Composition Refusal) → AskAlike a b
     → SourceMeans told b.width b.piece r
     → SourceMeans told a.width a.piece r
@@ -131,7 +131,8 @@ module _ {F K T B C F' K' T' B' C' : Type 0} (see : Sight F K T B C) (see' : Sig
 
 -- THE SAME STATUS
 
--- How a run ended in which nothing failed and memory sufficed: by the sound, by a refusal or by a lacking name.
+-- How a run ended in which nothing failed and memory sufficed: with the sound, with a refusal or with a
+-- missing name.
 pub data EndedFor (told : ShelfTold) (asked : Asked) (s : Status) : Type 0 where
   sounding : (c : Composition) → s ≡ status.Ok → SourceMeans told asked.width asked.piece (Ok c) → EndedFor told asked s
   refusing : (r : Refusal) → s ≡ refusal r → SourceMeans told asked.width asked.piece (Err r) → EndedFor told asked s
@@ -155,7 +156,7 @@ module _ {F K T B C : Type 0} (see : Sight F K T B C) (words : List Text) (asked
   ended_for s m (by_words is none) = absurd (no_asked (reading words) asked none e)
   ended_for s m (by_memory is) = absurd (m is)
 
--- what one of two shelves lacks that tell alike the other lacks
+-- if one of two shelves that tell the same lacks a name, so does the other
 lack_there : (piece : AskedPiece) (a b : Option (List NamedBytes)) (name : List ℕ) → TellAlike piece a b
     → LackWhereTold b piece name → LackWhereTold a piece name
 lack_there (demo n) a None name told lack = absurd lack
@@ -205,7 +206,7 @@ module _ (m : OneMeaning) (p : OnePair) (none : NoneLacking) (told told' : Shelf
   same_end s t (missing name e h) (refusing q f k) = absurd (no_meaning (Err q) name h k)
   same_end s t (missing name e h) (missing other f k) = e ∙ sym f
 
--- a run that was asked for as another
+-- a run for the same request as another
 as_asked : (told : ShelfTold) (a b : Asked) (s : Status) → AskAlike a b → EndedFor told b s → EndedFor told a s
 as_asked told a b s alike (sounding c e h) = sounding c e (means_as told a b (Ok c) alike h)
 as_asked told a b s alike (refusing r e h) = refusing r e (means_as told a b (Err r) alike h)

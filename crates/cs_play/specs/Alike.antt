@@ -1,4 +1,4 @@
--- What two runs have in common, and what the texts of a run are.
+-- What two runs have in common, and the texts of a run.
 use Rattle.std.specs.Prelude.{◌≡◌, false, List, Option, Some, None, Ok, ⊤}
 use Rattle.cs_piece_meaning.specs.Moments.{Composition}
 use Rattle.cs_edge.specs.{Moves.Held, Moves.WroteMore, Told.Rose, declared.files.NamedBytes.NamedBytes}
@@ -6,32 +6,32 @@ use Rattle.cs_play.specs.{Endings.WasPerformed, Endings.report_in, Report.meter_
 use Rattle.cs_arguments.specs.Reading.{Asked, AskedPiece, demo}
 use Rattle.cs_source.specs.{Loaded.SourceMeans, Texts.Texts, Texts.Have, Texts.demo_notes}
 
--- The texts of a piece: those of the demo, or those that files have which are told.
+-- The texts of a piece: the demo's, or those that the told files have.
 abbrev pub AreTexts : Option (List NamedBytes) → AskedPiece → Texts → Type 0
 AreTexts files (demo n) texts = texts ≡ demo_notes n
 AreTexts None piece texts = ⊥
 AreTexts (Some files) piece texts = Have files piece texts
 
--- One piece is asked for, and one width of its samples. All else may differ: the name of the sound file and whether it
--- is written, workers, turns and pool.
+-- The arguments ask for the same piece and the same width of its samples. Everything else may differ: the
+-- name of the sound file and whether it is written, workers, turns and pool.
 pub record AskAlike (a b : Asked) : Type 0 where
   pub piece : a.piece ≡ b.piece
   pub width : a.width ≡ b.width
 
--- Two shelves tell the same files. For the demo they may tell what they want.
+-- Two shelves tell the same files. For the demo they may tell anything.
 abbrev pub TellAlike : AskedPiece → Option (List NamedBytes) → Option (List NamedBytes) → Type 0
 TellAlike (demo n) a b = ⊤
 TellAlike piece a b = (files : List NamedBytes) × (a ≡ Some files) × (b ≡ Some files)
 
--- Two sinks hold the same bytes, where both tell what they hold.
+-- Two sinks contain the same bytes, if both tell their contents.
 abbrev pub HoldAlike : Option Held → Option Held → Type 0
 HoldAlike (Some a) (Some b) = a.bytes ≡ b.bytes
 HoldAlike _ _ = ⊤
 
--- Two runs performed one composition, which their texts mean, so that their meters were told the same frames, and each
--- cycle of either was counted by the voices that were heard in it. Each said its report, and the two are the same where
--- turns are asked for alike and the lines of the meters are the same. Where both wrote sound files, the two are the
--- same byte for byte.
+-- Two runs performed the same composition, which their texts mean, so that their meters received the same
+-- frames, and each cycle of either run was counted by the voices that were heard in it. Each printed its
+-- report, and the two reports are the same if both runs or neither ask for turns and the lines of the meters
+-- are the same. If both wrote sound files, the two are the same byte for byte.
 pub record SoundAlike {F K T B C F' K' T' B' C' : Type 0} (see : Sight F K T B C) (see' : Sight F' K' T' B' C')
     (a b : Asked)
     (before now : Scene F K T B C) (before' now' : Scene F' K' T' B' C') : Type 0 where
@@ -46,7 +46,7 @@ pub record SoundAlike {F K T B C F' K' T' B' C' : Type 0} (see : Sight F K T B C
       → report_in see a c now ≡ report_in see' b c now'
   pub bytes : a.silent ≡ false → b.silent ≡ false → HoldAlike (see.wav now.wav).held (see'.wav now'.wav).held
 
--- In a run nothing failed that it has to do with: no count of faults rose.
+-- Nothing failed in a run: no count of faults rose.
 pub record HadNoFault {F K T B C : Type 0} (see : Sight F K T B C) (before now : Scene F K T B C) : Type 0 where
   pub shelf : ¬ (Rose (see.shelf before.shelf).faults (see.shelf now.shelf).faults)
   pub wav : ¬ (Rose (see.wav before.wav).faults (see.wav now.wav).faults)

@@ -1,4 +1,4 @@
--- How a run of the program ends: for each status what has come about, and no more.
+-- How a run of the program ends: for each status what has happened, and no more.
 use Rattle.std.specs.Prelude.{ℕ, ◌≡◌, ◌⊎◌, Bool, true, false, List, [], Result, Ok}
 use Rattle.cs_base.specs.{declared.head.Head.Head, declared.refusal.Refusal.Refusal}
 use Rattle.cs_piece_meaning.specs.Moments.{Composition}
@@ -21,22 +21,24 @@ abbrev pub output_of : Bool → Output
 output_of true = Nothing
 output_of false = SoundFile
 
+-- the report has the lines of turns if the arguments ask for them
 abbrev pub lines_of : Bool → TurnLines
 lines_of true = Told
 lines_of false = Untold
 
--- what the performer is asked for
+-- the order for the performer
 abbrev pub order_of : Asked → PerformanceOrder
 order_of asked = record { output = output_of asked.silent; width = asked.width; turns = lines_of asked.turns }
 
--- and what it performs, where this composition is that of the piece, and this the head of its sound file
+-- the request for the performer, with this composition of the piece and this head of its sound file
 abbrev pub request_in : Asked → Composition → Head → Request
 request_in asked c head = record { piece = c; head = head; order = order_of asked; name = asked.sound_file }
 
--- what of the objects is lent to a performance, and what is told of it
+-- the objects that are lent to a performance
 abbrev pub lent_in : {F K T B C : Type 0} → Scene F K T B C → Lent B K C
 lent_in s = lent s.wav s.taps s.tally
 
+-- what the lent objects tell
 abbrev pub sees_lent : {F K T B C : Type 0} → Sight F K T B C → LentSight B K C
 sees_lent see = lent_sight see.stands see.wav see.counted
 
@@ -51,21 +53,22 @@ module _ {F K T B C : Type 0} (see : Sight F K T B C) where
   abbrev pub HasLoaded : Asked → Scene F K T B C → Scene F K T B C → Result Composition Refusal → Type 0
   HasLoaded asked before now r = IsLoaded (see.shelf before.shelf) (see.shelf now.shelf) asked.width asked.piece r
 
-  -- A composition was performed whole: each meter was told all its frames, each of its cycles was counted by the
-  -- voices that were heard in it, and the sound file has its header and samples, or with `-n` had no call.
+  -- A composition was performed completely: each meter received all its frames, each of its cycles was
+  -- counted by the voices that were heard in it, and the sound file has its header and samples, or with `-n`
+  -- received no call.
   pub record WasPerformed (asked : Asked) (c : Composition) (before now : Scene F K T B C) : Type 0 where
     pub head : Head
     pub head_is : header_of_head head ≡ c.head
     pub whole : IsWholePerformance (sees_lent see) (request_in asked c head) (lent_in before) (lent_in now)
 
-  -- Some number of its first cycles were.
+  -- Some number of its first cycles were performed.
   pub record WasPartlyPerformed (asked : Asked) (c : Composition) (before now : Scene F K T B C) : Type 0 where
     pub head : Head
     pub head_is : header_of_head head ≡ c.head
     pub part : IsPart (sees_lent see) (request_in asked c head) (lent_in before) (lent_in now)
 
-  -- Some number of its first cycles were, and the sound file, where it was begun, has its header and the samples of
-  -- just these.
+  -- Some number of its first cycles were performed, and the sound file, if it was opened, has the header and
+  -- exactly the samples of these cycles.
   pub record WasPaused (asked : Asked) (c : Composition) (before now : Scene F K T B C) : Type 0 where
     pub head : Head
     pub head_is : header_of_head head ≡ c.head
@@ -75,25 +78,28 @@ module _ {F K T B C : Type 0} (see : Sight F K T B C) where
   abbrev pub report_in : Asked → Composition → Scene F K T B C → List ℕ
   report_in asked c now = report_of c asked (meter_lines see.line now.taps)
 
-  -- Talk has the line of a status, where this is the name that can't be read; or the front of it where its count rose.
+  -- `talk` has the line of a status, with the name that can't be read, or a prefix of the line if its count
+  -- of faults rose.
   abbrev pub HasLine : Status → List ℕ → Scene F K T B C → Scene F K T B C → Type 0
   HasLine s name before now = Says (see.talk before.talk) (see.talk now.talk) (message_of s name)
 
-  -- Ok: the source means a composition, which was performed whole, and talk has the report.
+  -- Ok: the source means a composition, which was performed completely, and `talk` has the report.
   pub record IsOk (asked : Asked) (before now : Scene F K T B C) : Type 0 where
     pub c : Composition
     pub loaded : HasLoaded asked before now (Ok c)
     pub performed : WasPerformed asked c before now
     pub report : WroteMore (see.talk before.talk) (see.talk now.talk) (report_in asked c now)
 
-  -- TalkFault: the same, but talk failed and has the front of the report.
+  -- TalkFault: the source means a composition, which was performed completely, but `talk` failed and has a
+  -- prefix of the report.
   pub record IsTalkFault (asked : Asked) (before now : Scene F K T B C) : Type 0 where
     pub c : Composition
     pub loaded : HasLoaded asked before now (Ok c)
     pub performed : WasPerformed asked c before now
     pub report : WrotePart (see.talk before.talk) (see.talk now.talk) (report_in asked c now)
 
-  -- SinkFault: the source means a composition, of which some cycles were performed when the sound file failed.
+  -- SinkFault: the source means a composition, some cycles of which had been performed when the sound file
+  -- failed.
   pub record IsSinkFault (asked : Asked) (before now : Scene F K T B C) : Type 0 where
     pub c : Composition
     pub loaded : HasLoaded asked before now (Ok c)
@@ -102,13 +108,14 @@ module _ {F K T B C : Type 0} (see : Sight F K T B C) where
     pub rose : Rose (see.wav before.wav).faults (see.wav now.wav).faults
     pub line : HasLine status.SinkFault [] before now
 
-  -- Memory was refused while a composition was performed that the source means, between two cycles.
+  -- Memory ran out between two cycles of the performance of a composition that the source means.
   pub record IsCutShort (asked : Asked) (before now : Scene F K T B C) : Type 0 where
     pub c : Composition
     pub loaded : HasLoaded asked before now (Ok c)
     pub performed : WasPaused asked c before now
 
-  -- OutOfMemory: nothing was performed, or some cycles of a composition. No call of the shelf or the sound file failed.
+  -- OutOfMemory: either nothing was performed, or some cycles of a composition. No call of the shelf or the
+  -- sound file failed.
   pub record IsStarved (words : List Text) (before now : Scene F K T B C) : Type 0 where
     pub calm : (see.shelf now.shelf).faults ≡ (see.shelf before.shelf).faults
     pub performed : IsUntouched before now ⊎ Reads words (λ asked. IsCutShort asked before now)
@@ -119,6 +126,7 @@ module _ {F K T B C : Type 0} (see : Sight F K T B C) where
     pub unprepared : IsUnprepared see.shelf s words before.shelf now.shelf (see.talk before.talk) (see.talk now.talk)
     pub untouched : IsUntouched before now
 
+  -- How a run ended, for each status.
   abbrev pub EndsBy : Status → List Text → Scene F K T B C → Scene F K T B C → Type 0
   EndsBy status.Ok words before now = Reads words (λ asked. IsOk asked before now)
   EndsBy status.TalkFault words before now = Reads words (λ asked. IsTalkFault asked before now)

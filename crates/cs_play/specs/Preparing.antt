@@ -1,4 +1,5 @@
--- What the words and the source that they ask for come to before anything is performed: a piece, or why there is none.
+-- What the arguments and the source that they ask for lead to before anything is performed: a piece, or the
+-- reason why there is none.
 use Rattle.std.specs.Prelude.{ℕ, ◌≡◌, ◌⊎◌, List, Some, None, Ok, Err}
 use Rattle.cs_edge.specs.{Files.ShelfTold, Moves.SinkTold}
 use Rattle.cs_piece.specs.Setups.{composition_of}
@@ -10,16 +11,16 @@ use Rattle.cs_play.specs.declared.preparing.Prepared.{Prepared}
 use Rattle.cs_base.specs.declared.refusal.Refusal.TheVariants as why
 use Rattle.cs_report.specs.declared.status.Status.TheVariants as status
 
--- the words ask for something of which P holds
+-- the arguments ask for something for which P holds
 abbrev pub Reads : List Text → (Asked → Type 0) → Type 0
 Reads words P = (asked : Asked) × (reading words ≡ Some asked) × P asked
 
 module _ {F : Type 0} (tells : F → ShelfTold) where
-  -- The shelf had no call, or was read by the source that the words ask for, all of it or the front.
+  -- The shelf received no call, or was read for the source in the arguments, completely or up to some point.
   abbrev pub IsReadFor : List Text → F → F → Type 0
   IsReadFor words before now = (now ≡ before) ⊎ Reads words (λ asked. WasRead (tells before) (tells now) asked.piece)
 
-  -- A piece: the words ask for it, and its source means the composition of the setup.
+  -- A piece: the arguments ask for it, and its source means the composition of the setup.
   pub record IsPrepared (words : List Text) (before now : F) (p : Prepared) : Type 0 where
     pub asked : reading words ≡ Some (asked_in p.order)
     pub loaded : IsLoaded (tells before) (tells now) p.order.width (piece_in p.order.source)
@@ -30,9 +31,9 @@ module _ {F : Type 0} (tells : F → ShelfTold) where
   IsRefused r words before now =
       Reads words (λ asked. IsLoaded (tells before) (tells now) asked.width asked.piece (Err r))
 
-  -- Why there is no piece, by the status that says so, and the name that can't be read where that is why: the words ask
-  -- for nothing, and the shelf had no call; the name can't be read, the one begun last; the source means a refusal.
-  -- Memory may be refused at any time; no call of the shelf failed then.
+  -- Why there is no piece, for each status. Usage: the arguments have no reading, and the shelf received no
+  -- call. ShelfFault: `name`, the file opened last, can't be read. The refusals: the source means this
+  -- refusal. OutOfMemory may happen at any time, without a failed call of the shelf.
   abbrev pub HasNoPiece : Status → List ℕ → List Text → F → F → Type 0
   HasNoPiece status.Usage name words before now = (reading words ≡ None) × (now ≡ before)
   HasNoPiece status.ShelfFault name words before now =
@@ -44,7 +45,7 @@ module _ {F : Type 0} (tells : F → ShelfTold) where
   HasNoPiece status.OutOfMemory name words before now = (tells now).faults ≡ (tells before).faults
   HasNoPiece _ name words before now = ⊥
 
-  -- There is no piece, and talk has the line of the status, or the front of it where its count rose.
+  -- No piece was made. `talk` has the line of the status, or a prefix of it if its count of faults rose.
   pub record IsUnprepared (s : Status) (words : List Text) (before now : F) (talk_before talk_now : SinkTold) : Type
       0 where
     pub name : List ℕ

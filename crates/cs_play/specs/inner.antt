@@ -1,3 +1,3 @@
--- what private clauses cite alone
+-- Definitions that only private clauses cite.
 pub mod Sounding
 pub mod Faulted

@@ -1,5 +1,5 @@
-// What holds of every two runs, and of every run whose texts are known: calls that do nothing, whose contracts are
-// the laws. The meters that they take stand for those of the runs.
+// What holds for every two runs, and for every run whose texts are known: calls that do nothing as they run,
+// whose contracts are the laws. Their meters only supply the type of the runs' meters.
 ghost use Rattle.std.specs.Prelude.{◌≡◌, ◌≢◌, ◌⊎◌, ℕ, true, false, List, Some, None, Ok, Err};
 ghost use Rattle.cs_base.specs.declared.width.SampleWidth.{SampleWidth};
 ghost use Rattle.cs_piece_meaning.specs.Moments.{Composition};
@@ -19,7 +19,8 @@ use cs_source::{
     files_have_one_pair_of_texts, texts_of_a_source_mean_one, told_files_have_texts_or_lack_a_name,
 };
 
-/// Texts have exactly one sound or exactly one first refusal, and never both, in samples of either width.
+/// For the prover: texts have either exactly one sound or exactly one first refusal, and never both, in
+/// samples of either width.
 pub fn texts_have_one_sound_or_refusal()
     ensures some { (t : Texts) (width : SampleWidth)
         → ((bytes : List ℕ) × IsSoundOf t width bytes) ⊎ ((r : Refusal) × Mean width t (Err r)) }
@@ -33,8 +34,9 @@ pub fn texts_have_one_sound_or_refusal()
     texts_of_a_source_mean_one();
 }
 
-/// THE PAGE. Whatever comes of a run stands on one page (`Ends`, specs/Page), over what its objects tell: real files,
-/// which tell how often a call on them failed, and objects that tell all.
+/// THE PAGE. For the prover: the result of every run is on one page (`Ends`, specs/Page), in terms of what
+/// its objects tell, whether they are real files, which tell only how often a call on them failed, or objects
+/// that tell everything.
 pub fn runs_are_as_the_page_says<F: Shelf, K: Sink, T: Sink, C: Counter>(_taps: &[Box<dyn Tap>])
     ensures { (words : List Text) (s : Status) (before now : Scene F K T _ C)
         → IsProgramRun (sight F.tells K.tells T.tells C.has_counted (λ t h. stands_for t h)
@@ -46,8 +48,9 @@ pub fn runs_are_as_the_page_says<F: Shelf, K: Sink, T: Sink, C: Counter>(_taps: 
     early_stops_are_fronts();
 }
 
-/// Where a count of faults changed, that decides the end, whatever else came: the shelf's ends as ShelfFault, the sound
-/// file's as SinkFault, and after one of talk the run isn't Ok.
+/// For the prover: if a count of faults rose, that decides the end, whatever else happened: a fault of the
+/// shelf ends the run with ShelfFault, a fault of the sound file with SinkFault, and after a fault of `talk`
+/// the run isn't Ok.
 pub fn failures_decide<F: Shelf, K: Sink, T: Sink, C: Counter>(_taps: &[Box<dyn Tap>])
     ensures shelf { (words : List Text) (s : Status) (before now : Scene F K T _ C)
         → IsProgramRun (sight F.tells K.tells T.tells C.has_counted (λ t h. stands_for t h)
@@ -65,10 +68,11 @@ pub fn failures_decide<F: Shelf, K: Sink, T: Sink, C: Counter>(_taps: &[Box<dyn 
     early_stops_are_fronts();
 }
 
-/// THE HEADLINE. The texts of a run are known: those of the files that the shelf tells, or the demo's; and the sound
-/// file tells what it holds. After Ok it holds the sound of the texts, under the name asked for, and was ended,
-/// unless silence is asked for. After any status it holds what it held before, or nothing where its begin failed, or
-/// a front of the sound of the texts.
+/// THE HEADLINE. For the prover: suppose that the texts of a run are known (from the files that the shelf
+/// tells, or the demo's) and that the sound file tells its contents. After Ok it contains the sound of the
+/// texts, under the name in the arguments, and was ended, unless silence is asked for. After any status it
+/// contains what it contained before, or nothing if it couldn't be opened, or a prefix of the sound of the
+/// texts.
 pub fn sound_files_hold_sounds<F: Shelf, K: Sink, T: Sink, C: Counter>(_taps: &[Box<dyn Tap>])
     ensures ok { (words : List Text) (before now : Scene F K T _ C) (asked : Asked) (t : Texts) (held : Held)
         → IsProgramRun (sight F.tells K.tells T.tells C.has_counted (λ t h. stands_for t h)
@@ -87,10 +91,10 @@ pub fn sound_files_hold_sounds<F: Shelf, K: Sink, T: Sink, C: Counter>(_taps: &[
     early_stops_are_fronts();
 }
 
-/// Two runs, whose words ask for one piece and one width, whatever else they say, and whose shelves tell the same
-/// files, or the piece is the demo. Where both end Ok, they performed one composition, that of their texts, each has
-/// said its report, and their sound files are the same byte for byte. Where nothing failed and memory sufficed in both,
-/// they end by one status.
+/// For the prover: suppose that the arguments of two runs ask for the same piece and the same width, and that
+/// their shelves tell the same files, or the piece is the demo. If both end Ok, they performed the same
+/// composition, which their texts mean, each has printed its report, and their sound files are the same byte
+/// for byte. If nothing failed and memory sufficed in both, they end with the same status.
 pub fn alike_runs_agree<
     F: Shelf,
     K: Sink,
@@ -131,7 +135,7 @@ pub fn alike_runs_agree<
     told_files_have_texts_or_lack_a_name();
 }
 
-/// Words without a reading get the usage line, want of memory aside.
+/// For the prover: arguments without a reading get the usage line, unless memory runs out.
 pub fn words_decide<F: Shelf, K: Sink, T: Sink, C: Counter>(_taps: &[Box<dyn Tap>])
     ensures { (words : List Text) (s : Status) (before now : Scene F K T _ C)
         → IsProgramRun (sight F.tells K.tells T.tells C.has_counted (λ t h. stands_for t h)
@@ -139,7 +143,8 @@ pub fn words_decide<F: Shelf, K: Sink, T: Sink, C: Counter>(_taps: &[Box<dyn Tap
         → reading words ≡ None → (s ≡ status.Usage) ⊎ (s ≡ status.OutOfMemory) }
 {}
 
-/// Where the shelf tells that it lacks a name that is begun, that is the end, want of memory aside.
+/// For the prover: if the shelf tells that it lacks a name that is opened, the run ends with that, unless
+/// memory runs out.
 pub fn lacking_decides<F: Shelf, K: Sink, T: Sink, C: Counter>(_taps: &[Box<dyn Tap>])
     ensures { (words : List Text) (s : Status) (before now : Scene F K T _ C)
         → IsProgramRun (sight F.tells K.tells T.tells C.has_counted (λ t h. stands_for t h)
@@ -150,7 +155,8 @@ pub fn lacking_decides<F: Shelf, K: Sink, T: Sink, C: Counter>(_taps: &[Box<dyn 
     told_files_have_texts_or_lack_a_name();
 }
 
-/// Where the texts are known and refused, and the shelf didn't fail, the refusal comes, want of memory aside.
+/// For the prover: if the texts are known and refused, and the shelf didn't fail, the run ends with the
+/// refusal, unless memory runs out.
 pub fn refusals_decide<F: Shelf, K: Sink, T: Sink, C: Counter>(_taps: &[Box<dyn Tap>])
     ensures { (words : List Text) (s : Status) (before now : Scene F K T _ C) (asked : Asked) (t : Texts) (r : Refusal)
         → IsProgramRun (sight F.tells K.tells T.tells C.has_counted (λ t h. stands_for t h)
@@ -164,8 +170,8 @@ pub fn refusals_decide<F: Shelf, K: Sink, T: Sink, C: Counter>(_taps: &[Box<dyn 
     told_files_have_texts_or_lack_a_name();
 }
 
-/// Where the texts are known and mean a composition, and neither the shelf nor a sink failed, it is performed whole
-/// and reported, want of memory aside.
+/// For the prover: if the texts are known and mean a composition, and neither the shelf nor a sink failed, it
+/// is performed completely and reported, unless memory runs out.
 pub fn sounds_decide<F: Shelf, K: Sink, T: Sink, C: Counter>(_taps: &[Box<dyn Tap>])
     ensures { (words : List Text) (s : Status) (before now : Scene F K T _ C) (asked : Asked) (t : Texts)
         (c : Composition)

@@ -1,19 +1,21 @@
-//! The program as one call: the words behind its name in, a sound file and a report out.
+//! The program as one call: the command-line arguments are its input, a sound file and a report its output.
 //!
-//! What comes of every run stands on one page (`Ends`, specs/Page), and `runs_are_as_the_page_says` shows it.
+//! The result of every run is on one page (`Ends`, specs/Page), as the law `runs_are_as_the_page_says` shows.
 //!
-//! The one contract: `csplay` ends as `IsProgramRun` says (specs/Runs): each status by what has come about (`EndsBy`,
-//! specs/Endings), over what shelf, sound file, talk and meters tell before and after; and the shelf was read by the
-//! source that the words ask for, or not at all. What comes before the performance is `prepare`, which has no runtime:
-//! a piece (`IsPrepared`, specs/Preparing), or the status and the line of what keeps the run from it (`IsUnprepared`).
-//! What follows for every two runs and for every run are calls of `laws`: texts have one sound or one refusal
-//! (`IsSoundOf` of cs_source), the sound file holds it or a front of it, whatever the number of workers, and words, a
-//! lacking name, a refusal and a sound decide the status, want of memory aside.
+//! The one contract: `csplay` ends as `IsProgramRun` states (specs/Runs): for each status, what has happened
+//! (`EndsBy`, specs/Endings), in terms of what shelf, sound file, `talk` and meters tell before and after;
+//! and the shelf was read for the source in the arguments, or not at all. `prepare` does everything before
+//! the performance and has no runtime: its result is a piece (`IsPrepared`, specs/Preparing), or the status
+//! and the line that say why there is none (`IsUnprepared`). `laws` has the consequences for every run and
+//! for every two runs: texts have one sound or one refusal (`IsSoundOf` of cs_source); the sound file
+//! contains it or a prefix of it, whatever the number of workers; and arguments, a missing name, a refusal or
+//! a sound decide the status, unless memory runs out.
 //!
-//! How many workers there are may be changed without anyone noticing; so may whatever `perform` leaves open.
+//! The number of workers may be changed without anyone noticing, and so may everything that `perform` leaves
+//! open.
 //!
-//! Modules in reading order: `top` (the whole run), `preparing` (words and texts), `player` (a piece is performed, by
-//! how many workers), `sounding` (what came of it is said), `laws`.
+//! Modules in reading order: `top` (the complete run), `preparing` (arguments and texts), `player`
+//! (performing a piece, with how many workers), `sounding` (reporting the result), `laws`.
 #![tactic(auto)]
 
 mod laws;

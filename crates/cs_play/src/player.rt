@@ -1,5 +1,5 @@
-// Who performs a piece that was prepared.
-ghost use Rattle.std.specs.Prelude.{◌≡◌, ◌≤◌, ◌^◌, IfOk};
+// The performer of a piece that was prepared.
+ghost use Rattle.std.specs.Prelude.{◌≡◌, ◌≤◌, ◌^◌, min, IfOk};
 ghost use Rattle.cs_perform.specs.Performances.{PerformsPiece, lent, lent_sight, request_of};
 ghost use Rattle.cs_play.specs.Endings.{lines_of, order_of, output_of, request_in};
 ghost use Rattle.cs_arguments.specs.Orders.{asked_in};
@@ -20,7 +20,7 @@ use std::alloc::Global;
 use std::sync::Wait;
 use std::thread::Threads;
 
-/// Where workers come from, and the gate that each of them calls before it runs a note.
+/// The source of workers, and the gate that each of them calls before it runs a note.
 #[derive(Drop)]
 pub(crate) struct Host<'r, R, G> {
     pub rt: &'r R,
@@ -28,25 +28,25 @@ pub(crate) struct Host<'r, R, G> {
     pub gate: &'r G,
 }
 
-/// The caller alone, and the gate that is called before each note.
+/// The caller without a crew, and the gate that it calls before each note.
 #[derive(Drop)]
 pub(crate) struct Alone<'g, G> {
     pub alloc: Global,
     pub gate: &'g G,
 }
 
-/// What came of a performance, or that there was none.
+/// The result of a performance, or the fact that there was none.
 #[derive(Drop)]
 pub(crate) enum Played {
-    /// A piece was performed, and this came of it.
+    /// A piece was performed, with this result.
     Piece(Result<Outcome, PlayFault>),
-    /// There was no piece. That was said, and this is the status of it.
+    /// There was no piece. This was printed, and this is its status.
     Nothing(Status),
 }
 
-/// Performs what was prepared as the words ask for it, by as many workers as they ask for, though no more than there
-/// are processors, or two where there is one. One worker is the caller alone, unless the words ask for a crew that
-/// stays. `tally` has room for 2^42 cycles and notes.
+/// Performs what was prepared with as many workers as the arguments ask for, but no more than there are
+/// processors, or than two if there is one processor. With one worker the caller performs it without a crew,
+/// unless the arguments ask for a crew that stays. `tally` has room for 2^42 cycles and notes.
 pub(crate) fn play<R: Threads + Wait + Sync, G: Gate + Sync, K: Sink, C: Counter>(
     host: &Host<'_, R, G>,
     prepared: Result<Prepared<'_>, Status>,
@@ -65,7 +65,7 @@ pub(crate) fn play<R: Threads + Wait + Sync, G: Gate + Sync, K: Sink, C: Counter
     }
 }
 
-/// The same by the caller alone, however many workers the words ask for.
+/// Performs what was prepared with one worker, the caller, whatever number the arguments ask for.
 pub(crate) fn play_alone<G: Gate, K: Sink, C: Counter>(
     alone: &Alone<'_, G>,
     prepared: Result<Prepared<'_>, Status>,
@@ -126,14 +126,16 @@ fn play_piece_alone<G: Gate, K: Sink, C: Counter>(
     perform_alone(&performance, alone.gate, wav, taps, tally)
 }
 
+// Returns the number of workers that play: at most `asked` and the number of processors, but two if two are
+// asked for.
 fn workers_of<R: Threads>(rt: &R, asked: u32) -> u32
     requires { 1 ≤ asked }
-    ensures { (1 ≤ result) × (result ≤ asked) }
+    ensures { (1 ≤ result) × (result ≤ asked) × (min 2 asked ≤ result) }
 {
     crew_size(rt, asked).max(asked.min(2))
 }
 
-/// What the performer is asked for.
+// Returns what the performer is to do.
 fn performance_of<'p>(alloc: Global, piece: &'p Prepared<'_>) -> Performance<'p>
     ensures setup { result.setup.now ≡ piece.now.setup }
     ensures order { result.order ≡ order_of (asked_in piece.now.order) }

@@ -1,4 +1,4 @@
-// What comes before a performance: words and texts are read, and compiled or refused.
+// Everything before a performance: arguments and texts are read, and compiled or refused.
 ghost use Rattle.std.specs.Prelude.{◌≡◌, List, Ok, Some, false, true, IfErr, IfOk, OnOk};
 ghost use Rattle.cs_arguments.specs.{Orders.asked_in, Orders.piece_in, Reading.Asked, Reading.Text, Reading.reading};
 ghost use Rattle.cs_command.specs.Words.{texts};
@@ -18,14 +18,14 @@ use std::alloc::Global;
 /// A piece that can be performed.
 #[derive(Drop)]
 pub struct Prepared<'w> {
-    /// What the words ask for.
+    /// What the arguments ask for.
     pub order: Order<'w>,
-    /// What the piece needs to be performed.
+    /// Everything that the piece needs to be performed.
     pub setup: Setup,
 }
 
-/// Whether one worker does what the words ask for: they ask for one that doesn't stay, or have no reading. False too
-/// where memory is refused. A run by `csplay_alone` is the whole run then.
+/// Returns whether the arguments ask for one worker that doesn't stay, or have no reading; then a run of
+/// `csplay_alone` is the complete run. Returns false if memory runs out.
 pub fn asks_for_one(alloc: Global, words: &[String]) -> bool
     ensures { result ≡ true → (asked : Asked) → reading (texts words.now) ≡ Some asked
         → (asked.workers ≡ 1) × (asked.pool ≡ false) }
@@ -37,10 +37,10 @@ pub fn asks_for_one(alloc: Global, words: &[String]) -> bool
     }
 }
 
-/// All that comes before a performance: reads the words behind the program's name, takes the piece that they ask for
-/// from the shelf or makes the demo, and compiles it. Where there is no piece, says why on `talk`, and returns the
-/// status of it: Usage, ShelfFault, one of the four refusals or OutOfMemory (`IsUnprepared`). It has no runtime, so it
-/// waits for no worker.
+/// Does everything before a performance: reads the command-line arguments, reads the piece that they ask for
+/// from the shelf or makes the demo, and compiles it. If there is no piece, prints the reason on `talk` and
+/// returns its status: Usage, ShelfFault, one of the four refusals or OutOfMemory (`IsUnprepared`). It has no
+/// runtime, so it waits for no worker.
 pub fn prepare<'w, F: Shelf, T: Sink>(
     alloc: Global,
     words: &'w [String],
@@ -73,7 +73,7 @@ fn status_of(unread: Unread) -> Status
     }
 }
 
-/// Loads the piece that the words ask for, or says why there is none.
+// Loads the piece that the arguments ask for, or prints why there is none.
 fn load_for<F: Shelf, T: Sink>(
     alloc: Global,
     order: &Order<'_>,
@@ -94,7 +94,7 @@ fn load_for<F: Shelf, T: Sink>(
     }
 }
 
-/// Says why there is no piece.
+// Prints why there is no piece.
 fn say_fault_of_load<T: Sink>(talk: &mut T, stop: LoadFault<'_>) -> Status
     ensures { IsNotLoaded stop.entry result (T.tells talk.old) (T.tells talk.new) }
 {

@@ -1,4 +1,4 @@
-// What came of a performance is said.
+// Reporting the result of a performance.
 ghost use Rattle.std.specs.Prelude.{◌≡◌, ◌++◌, flat_map};
 ghost use Rattle.cs_play.specs.inner.Sounding.{HasReported, HasSaid, counts_told};
 ghost use Rattle.cs_play.specs.inner.Faulted.{fault_status};
@@ -9,8 +9,8 @@ use cs_edge::{Sink, Tap};
 use cs_perform::{Outcome, PlayFault};
 use cs_report::{PerformanceCounts, Status, report, say_end};
 
-/// Writes the report of a performance, with the lines of these meters, or the line that says why there is none; where
-/// there was no piece, that has been said.
+/// Writes the report of a performance, with the lines of these meters, or the line that says why there is no
+/// report; if there was no piece, the line has been written before.
 pub(crate) fn say<T: Sink>(talk: &mut T, played: Played, taps: &[Box<dyn Tap>]) -> Status
     ensures { HasSaid T.tells (λ t room. text t room) played taps.now talk.old talk.new result }
 {
@@ -21,7 +21,7 @@ pub(crate) fn say<T: Sink>(talk: &mut T, played: Played, taps: &[Box<dyn Tap>]) 
     }
 }
 
-/// Writes the report of a performance.
+// Writes the report of a performance.
 fn reported<T: Sink>(talk: &mut T, outcome: &Outcome, taps: &[Box<dyn Tap>]) -> Status
     ensures { HasReported (T.tells talk.old) (T.tells talk.new)
         (counts_in (counts_told outcome.now) ++ flat_map

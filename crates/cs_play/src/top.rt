@@ -1,4 +1,4 @@
-// The whole run.
+// The complete run.
 ghost use Rattle.std.specs.Prelude.{◌≤◌, ◌^◌};
 ghost use Rattle.cs_command.specs.Words.{texts};
 ghost use Rattle.cs_play.specs.{Runs.IsProgramRun, Scene.scene, Scene.sight};
@@ -13,11 +13,12 @@ use std::alloc::Global;
 use std::sync::Wait;
 use std::thread::Threads;
 
-/// All that the program does: reads the words behind its name, takes the piece that they ask for from the shelf or
-/// makes the demo, performs it, writes the sound file into `wav`, tells the mix to each of `taps`, counts the cycles by
-/// their receipts in `tally`, and says on `talk` the report, or why there is none. `IsProgramRun` says what each status
-/// means. `tally` has room for 2^42 cycles and notes. As many workers perform as the words ask for, though no more than
-/// there are processors, or two where there is one; `gate` is handed to them, to be called before each note.
+/// Runs the complete program: reads the command-line arguments, reads the piece that they ask for from the
+/// shelf or makes the demo, performs it, writes the sound file into `wav`, passes the mix to each of `taps`,
+/// counts the cycles by their receipts in `tally`, and prints the report on `talk`, or the reason why there
+/// is none. `IsProgramRun` states what each status means. `tally` has room for 2^42 cycles and notes. As many
+/// workers perform as the arguments ask for, but no more than there are processors, or than two if there is
+/// one processor; each of them calls `gate` before each note.
 pub fn csplay<R: Threads + Wait + Sync, F: Shelf, K: Sink, T: Sink, C: Counter, G: Gate + Sync>(
     rt: &R,
     alloc: Global,
@@ -40,8 +41,8 @@ pub fn csplay<R: Threads + Wait + Sync, F: Shelf, K: Sink, T: Sink, C: Counter, 
     say(talk, played, taps)
 }
 
-/// The same by one worker, the caller, however many the words ask for. It has no runtime, so it starts no thread, waits
-/// for nobody, and returns.
+/// Runs the complete program with one worker, the caller, whatever number the arguments ask for. It has no
+/// runtime, so it starts no thread, waits for no other thread, and returns.
 pub fn csplay_alone<F: Shelf, K: Sink, T: Sink, C: Counter, G: Gate>(
     alloc: Global,
     words: &[String],

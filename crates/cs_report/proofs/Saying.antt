@@ -10,7 +10,7 @@ use Rattle.cs_report.specs.{declared.status.Status.Status, Report.count_lines, R
 use Rattle.cs_report.specs.declared.counts.PerformanceCounts.{PerformanceCounts}
 use Rattle.cs_report.specs.Talk.{joined, Says, fault_message, limit_message, message_of}
 
--- what holds in any case holds of an error
+-- what always holds, holds for an error
 pub on_err : {T E P : Type 0} (r : Result T E) → P → OnErr r P
 on_err (Ok x) p = tt
 on_err (Err e) p = p
@@ -27,7 +27,7 @@ so_far_more f pieces i d text lt e =
     ∙ (sym (flat_map-append f (take i pieces) (get_or pieces i d ∷ []))
     ∙ sym (ap (flat_map f) (take_more pieces i d lt)))
 
--- one more was written
+-- one more piece was written
 pub said_more : {X : Type 0} (f : X → List ℕ) (pieces : List X) (i : ℕ) (d : X) (text : List ℕ) (a b c : SinkTold)
     → i < length pieces
     → text ≡ f (get_or pieces i d) → WroteMore a b (so_far f pieces i) → WroteMore b c text
@@ -36,7 +36,7 @@ said_more f pieces i d text a b c lt e p q =
     let P : List ℕ → Type 0 = λ l. WroteMore a c l in
     subst P (so_far_more f pieces i d text lt e) (more_both a b c (so_far f pieces i) text p q)
 
--- a part of one more was written
+-- a part of one more piece was written
 pub said_part : {X : Type 0} (f : X → List ℕ) (pieces : List X) (i : ℕ) (d : X) (text : List ℕ) (a b c : SinkTold)
     → i < length pieces
     → text ≡ f (get_or pieces i d) → WroteMore a b (so_far f pieces i) → WrotePart b c text
@@ -50,7 +50,7 @@ said_part f pieces i d text a b c lt e p s =
     part_longer a c (so_far f pieces i ++ text) (flat_map f pieces) (rest, whole)
     (part_behind a b c (so_far f pieces i) text p s)
 
--- all was written
+-- all pieces were written
 pub said_all : {X : Type 0} (f : X → List ℕ) (pieces : List X) (i : ℕ) (a b : SinkTold) → length pieces ≤ i
     → WroteMore a b (so_far f pieces i)
     → WroteMore a b (flat_map f pieces)
@@ -58,7 +58,7 @@ said_all f pieces i a b h p =
     let P : List _ → Type 0 = λ l. WroteMore a b (flat_map f l) in
     subst P (take_all i pieces h) p
 
--- a status says its line
+-- the line of a status is written
 pub says_message : (a b : SinkTold) (s t : Status) (name text : List ℕ) → s ≡ t → text ≡ message_of t name
     → Says a b text → Says a b (message_of s name)
 says_message a b s t name text e h says =
@@ -71,7 +71,7 @@ fault_pieces : (text line number kind numeral name : List ℕ) → line ≡ numb
     ≡ joined (text ∷ codes " line " ∷ number ∷ codes ": " ∷ numeral ∷ codes " " ∷ name ∷ codes "\n" ∷ [])
 fault_pieces text line number kind numeral name e h = cc
 
--- the line of a fault, of which two pieces are numerals
+-- the line of a fault, two of whose pieces are numerals
 pub says_fault : (a b : SinkTold) (text name line kind : List ℕ) (at number : ℕ) → line ≡ decimal at
     → kind ≡ decimal number
     → Says a b (joined (text ∷ codes " line " ∷ line ∷ codes ": " ∷ kind ∷ codes " " ∷ name ∷ codes "\n" ∷ []))
@@ -104,7 +104,7 @@ five_lines : (a b c d e blank f g h i j feed : List ℕ)
     ++ (e ++ blank ++ j ++ feed)
 five_lines a b c d e blank f g h i j feed = simp append_assoc
 
--- the counts, of which five pieces are numerals
+-- the counts, five of whose pieces are numerals
 pub counts_are : (o : PerformanceCounts) (f c s n r : List ℕ) → f ≡ decimal o.frames → c ≡ decimal o.cycles
     → s ≡ decimal o.started
     → n ≡ decimal o.not_started → r ≡ decimal o.out_of_range
@@ -127,7 +127,7 @@ pub other_part : (a b : SinkTold) (r : Result (Unit {0}) Failed) (x y : List ℕ
     → OnErr r (WrotePart a b y)
 other_part a b r x y e h = let P : List ℕ → Type 0 = λ l. OnErr r (WrotePart a b l) in subst P e h
 
--- one more item's text was written, or the front of it
+-- the text of one more item was written, completely or a prefix
 pub item_said : {X : Type 0} (f : X → List ℕ) (items : List X) (i : ℕ) (x : X) (a b c : SinkTold) → i < length items
     → x ≡ get_or items i x
     → WroteMore a b (so_far f items i) → WroteMore b c (f x) → WroteMore a c (so_far f items (i + 1))
@@ -138,7 +138,8 @@ pub item_said_in_part : {X : Type 0} (f : X → List ℕ) (items : List X) (i : 
     → WroteMore a b (so_far f items i) → WrotePart b c (f x) → WrotePart a c (flat_map f items)
 item_said_in_part f items i x a b c lt is p s = said_part f items i x (f x) a b c lt (ap f is) p s
 
--- three texts: the first two whole, the third in part; the first whole, the second in part; the first in part
+-- three texts: the first two completely and the third in part; the first completely and the second in part;
+-- the first in part
 pub third_in_part : (a b c d : SinkTold) (xs ys zs : List ℕ) → WroteMore a b xs → WroteMore b c ys → WrotePart c d zs
     → WrotePart a d (xs ++ ys ++ zs)
 third_in_part a b c d xs ys zs p q r = part_behind a c d (xs ++ ys) zs (more_both a b c xs ys p q) r

@@ -1,4 +1,4 @@
--- The numbers of the endings, and which of them are refusals of a piece's texts.
+-- The exit statuses, and the status of each refusal of a piece's texts.
 use Rattle.std.specs.Prelude.{ℕ}
 use Rattle.cs_report.specs.declared.status.Status.{Status}
 use Rattle.cs_report.specs.declared.status.Status.TheVariants.{Ok, Usage, ShelfFault, OrcRefused, ScoreRefused, Limit}
@@ -6,6 +6,7 @@ use Rattle.cs_report.specs.declared.status.Status.TheVariants.{SinkFault, OutOfM
 use Rattle.cs_base.specs.declared.refusal.Refusal.TheVariants as why
 use Rattle.cs_base.specs.declared.refusal.Refusal.{Refusal}
 
+-- the exit status
 abbrev pub status_number : Status → ℕ
 status_number Ok = 0
 status_number Usage = 2

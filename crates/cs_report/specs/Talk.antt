@@ -1,4 +1,4 @@
--- What the program says of its end.
+-- What the program prints about its end.
 use Rattle.std.specs.Prelude.{ℕ, ◌⊎◌, List, [], ◌∷◌, ◌++◌, codes, decimal}
 use Rattle.cs_base.specs.Faults.{csd_kind_number, csd_kind_name, orc_kind_number, orc_kind_name, score_kind_number}
 use Rattle.cs_base.specs.{Faults.score_kind_name, Limits.limit_number, declared.limit.LimitHit.LimitHit}
@@ -13,18 +13,18 @@ abbrev pub joined : List (List ℕ) → List ℕ
 joined [] = []
 joined (text ∷ texts) = text ++ joined texts
 
--- the line of a text's first fault: which text, where, and the kind by its number and its name
+-- the line of a text's first fault: which text, its line, and the kind by its number and its name
 unfoldable pub fault_message : List ℕ → ℕ → ℕ → List ℕ → List ℕ
 fault_message text line kind name =
     joined (text ∷ codes " line " ∷ decimal line ∷ codes ": " ∷ decimal kind ∷ codes " " ∷ name ∷ codes "\n" ∷ [])
 
--- the line of a limit that was passed
+-- the line of a limit that was exceeded
 unfoldable pub limit_message : LimitHit → List ℕ
 limit_message hit =
     joined (codes "limit L" ∷ decimal (limit_number hit.limit) ∷ codes " passed at line " ∷ decimal hit.line
     ∷ codes "\n" ∷ [])
 
--- the line of a status, where the text of this name is the one that can't be read; Ok and TalkFault have none
+-- the line of a status, with the name of the text that can't be read; Ok and TalkFault have none
 abbrev pub message_of : Status → List ℕ → List ℕ
 message_of Ok name = []
 message_of Usage name = usage_text ++ codes "\n"
@@ -40,6 +40,6 @@ message_of TalkFault name = []
 message_of (CsdRefused fault) name =
     fault_message (codes "csd") fault.line (csd_kind_number fault.kind) (csd_kind_name fault.kind)
 
--- A sink has taken this text, or failed and has the front of it, in writes alone.
+-- A sink has received this text, or failed after a prefix of it; there were only writes.
 abbrev pub Says : SinkTold → SinkTold → List ℕ → Type 0
 Says before now text = WroteMore before now text ⊎ WrotePart before now text

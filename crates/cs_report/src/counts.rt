@@ -10,19 +10,20 @@ use itoa::Buffer;
 /// The counts of a performance.
 #[derive(Clone, Copy)]
 pub struct PerformanceCounts {
-    /// How many frames there are, each of which has a value a channel.
+    /// The number of frames, each with a value for each channel.
     pub frames: u32,
-    /// How many control cycles.
+    /// The number of control cycles.
     pub cycles: u32,
-    /// How many starts there were that started a note.
+    /// The number of starts that started a note.
     pub started: u64,
-    /// How many starts there were that started nothing.
+    /// The number of starts that started nothing.
     pub not_started: u64,
-    /// How many samples had to be brought into range.
+    /// The number of samples that were clipped.
     pub out_of_range: u64,
 }
 
-/// Writes the counts of a performance, the line of each meter, and the lines of turns, until talk fails.
+/// Writes the counts of a performance, the line of each meter, and the lines of turns, until a write to
+/// `talk` fails.
 pub fn report<T: Sink>(
     talk: &mut T,
     counts: &PerformanceCounts,

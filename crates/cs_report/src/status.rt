@@ -7,9 +7,9 @@ use cs_base::{CsdFault, LimitHit, OrcFault, Refusal, ScoreFault};
 /// How a run ended.
 #[derive(Clone, Copy)]
 pub enum Status {
-    /// The piece was performed whole, its sound file is whole, and so is the report.
+    /// The piece was performed to its end, and its sound file and the report are complete.
     Ok,
-    /// The words have no reading.
+    /// The arguments have no reading.
     Usage,
     /// A file of the piece couldn't be read.
     ShelfFault,
@@ -17,20 +17,20 @@ pub enum Status {
     OrcRefused(OrcFault),
     /// The score breaks a rule of the language.
     ScoreRefused(ScoreFault),
-    /// A stated limit was passed.
+    /// A stated limit was exceeded.
     Limit(LimitHit),
     /// The sound file couldn't be written.
     SinkFault,
-    /// Memory was refused.
+    /// Memory ran out.
     OutOfMemory,
-    /// The report couldn't be written. The sound file is whole.
+    /// The report couldn't be written. The sound file is complete.
     TalkFault,
     /// The tags of a file with both texts break a rule.
     CsdRefused(CsdFault),
 }
 
 impl Status {
-    /// The number with which the program ends.
+    /// Returns the exit status of the program.
     pub fn number(&self) -> u8
         ensures { result ≡ status_number self.now }
     {
@@ -48,7 +48,7 @@ impl Status {
         }
     }
 
-    /// The status of a refusal.
+    /// Returns the status of a refusal.
     pub fn of_refusal(refused: Refusal) -> Status
         ensures { result ≡ refusal refused }
     {

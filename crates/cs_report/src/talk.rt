@@ -9,8 +9,8 @@ use cs_base::{CsdFault, LimitHit, OrcFault, ScoreFault};
 use cs_edge::{Failed, Sink, write_all};
 use itoa::Buffer;
 
-/// Writes the line of a status, where `name` is the text that can't be read, and gives the status back. A line that
-/// fails changes nothing else.
+/// Writes the line of a status and returns the status; `name` is the name of the text that can't be read. A
+/// failed write changes nothing else.
 pub fn say_end<T: Sink>(talk: &mut T, status: Status, name: &str) -> Status
     ensures status { result ≡ status }
     ensures line { Says (T.tells talk.old) (T.tells talk.new) (message_of status name.now) }
@@ -68,14 +68,14 @@ fn say_limit<T: Sink>(talk: &mut T, hit: LimitHit)
     );
 }
 
-// Writes a line that may fail.
+// Writes a line; the write may fail.
 fn say_line<T: Sink>(talk: &mut T, pieces: &[&str])
     ensures { Says (T.tells talk.old) (T.tells talk.new) (flat_map (λ piece. piece.now) pieces.now) }
 {
     let _said = say(talk, pieces);
 }
 
-/// Writes pieces of text one after another, until one fails.
+/// Writes pieces of text one after another, until a write fails.
 pub fn say<T: Sink>(talk: &mut T, pieces: &[&str]) -> Result<(), Failed>
     ensures whole { OnOk result (WroteMore (T.tells talk.old) (T.tells talk.new)
         (flat_map (λ piece. piece.now) pieces.now)) }

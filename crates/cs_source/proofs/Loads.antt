@@ -1,4 +1,4 @@
--- What was read of a source, and what is left.
+-- What was read of a source, and the rest.
 use Rattle.std.proofs.Common.{◌≡◌, ◌≤◌, ◌<◌, ◌⊎◌, ◌+◌, ℕ, Bool, true, false, List, [], length, take, drop, Option, None}
 use Rattle.std.proofs.Common.{Some, Result, Ok, Err, IfErr, refl, ap, sym, subst, ◌∙◌, inl, inr, ⊎_elim, arith}
 use Rattle.std.proofs.Common.{if◌then◌else◌}
@@ -17,7 +17,7 @@ use Rattle.cs_source.proofs.Moves.{both_read, last_begun}
 use Rattle.cs_base.specs.declared.fault.Or.TheVariants as or
 use Rattle.cs_source.specs.declared.source.SourceText.TheVariants as read
 
--- THE WHOLE TEXT behind what was read: that of the file where files are told
+-- THE COMPLETE TEXT of which a part was read: the file's, if the shelf tells its files
 
 abbrev IsFile : Option (List NamedBytes) → List ℕ → List ℕ → Type 0
 IsFile None name text = Unit {0}
@@ -110,7 +110,7 @@ pub notes_read : (files : Option (List NamedBytes)) (n : ℕ) (text : SourceText
     → AreRead files (demo n) text
 notes_read files n text e = record { texts = demo_notes n; fit = refl; have = have_notes files n; read_of = e }
 
--- WHAT IS LEFT
+-- THE REST
 
 left_rest : (most : ℕ) (files : List NamedBytes) (name text : List ℕ) (left : Option (List ℕ))
     → LeavesRest most (Some files) name left → file_named name files ≡ Some text
@@ -217,14 +217,14 @@ pub unread_as : (a b : ShelfTold) (piece : AskedPiece) (n name : List ℕ) → n
     → CannotRead a b piece n
 unread_as a b piece n name e h = subst (CannotRead a b piece) (sym e) h
 
--- what holds of the fault of a `?` holds of its way out
+-- what holds for the fault of a `?` holds for the returned one
 pub fault_left : {B F : Type 0} (P : F → Type 0) (r : Result B (Or F)) (e : Or F) → IsErrAnd r (λ y. y ≡ e)
     → ((f : F) → e ≡ or.Fault f → P f) → IfErr r (λ x. IfFault x P)
 fault_left P (Ok b) e i h = tt
 fault_left P (Err (or.Fault f)) e i h = h f (sym i)
 fault_left P (Err or.OutOfMemory) e i h = tt
 
--- BOTH FILES were begun
+-- BOTH FILES were opened
 
 told_short : (files : Option (List NamedBytes)) (orc x : List ℕ) → IsTextOf 1048577 files orc x → length x ≤ 1048576
     → is_told_too_long files orc ≡ false

@@ -1,4 +1,4 @@
--- What texts mean is one thing, and what was read of them means the same.
+-- Texts have exactly one meaning, and what was read of them means the same.
 use Rattle.std.proofs.Common.{◌≡◌, ◌≤◌, ◌<◌, ◌+◌, Bool, true, false, ℕ, List, Result, Ok, Err, length, nat_lt, take}
 use Rattle.std.proofs.Common.{refl, ap, sym, subst, ◌∙◌, arith}
 use Rattle.std.proofs.lemmas.{Bool.Decides.nat_tests, List.take_all, List.length-take}
@@ -45,13 +45,13 @@ module _ (meaning : (width : SampleWidth) (orchestra score : Excerpt) (r s : Res
   mean_one width (demo_notes k) r s m n =
       meaning width (whole_file demo_texts.orchestra) (whole_file (demo_texts.score k)) r s m n
 
--- excerpts mean what those mean that they are
+-- excerpts mean the same as equal excerpts
 pub means_as : (width : SampleWidth) (a b x y : Excerpt) (r : Result Composition Refusal) → a ≡ x → b ≡ y
     → means width a b r → means width x y r
 means_as width a b x y r e h m =
     subst (λ (s : Excerpt). means width x s r) h (subst (λ (o : Excerpt). means width o b r) e m)
 
--- a file that isn't too long means what its parts mean
+-- a file that isn't too long means the same as its parts
 pub parts_mean : (width : SampleWidth) (text : List ℕ) (p : Parts) (r : Result Composition Refusal)
     → length text ≤ most_csd_bytes → Reading text (Ok p) → PartsMean width text (Ok p) r
     → FileMeans (nat_lt most_csd_bytes (length text)) width text r
@@ -61,7 +61,7 @@ parts_mean width text p r short read m = by (nat_lt most_csd_bytes (length text)
     by true e = absurd (let h : most_csd_bytes < length text = grind (arith, nat_tests) in omega (arith, h, short))
     by false e = (Ok p, read, m)
 
--- ONE BYTE MORE OF A TEXT than it may have is as long as the whole text, or is the whole text
+-- ONE BYTE MORE than the limit of a text: what was read is too long, or is the complete text
 
 front_short : (m : ℕ) (text : List ℕ) → nat_lt m (length text) ≡ false → take (m + 1) text ≡ text
 front_short m text e = take_all (m + 1) text (let h : length text ≤ m + 1 = grind (arith, nat_tests) in h)
@@ -87,7 +87,7 @@ same_answer : (which : Limit) (text : List ℕ)
     → no_longer_than which (whole_file (take (most_of which + 1) text)) ≡ no_longer_than which (whole_file text)
 same_answer which text = answer_by which (most_of which) text (nat_lt (most_of which) (length text)) refl
 
--- what the fronts of two texts mean the texts mean
+-- the prefixes of two texts mean the same as the texts
 means_whole : (width : SampleWidth) (orchestra score : List ℕ) (r : Result Composition Refusal)
     → means width (whole_file (take (most_orchestra_bytes + 1) orchestra))
     (whole_file (take (most_score_bytes + 1) score)) r
@@ -150,7 +150,7 @@ source_means : (before : ShelfTold) (width : SampleWidth) (piece : AskedPiece) (
 source_means before width piece text r a m =
     record { texts = a.texts; fit = a.fit; have = a.have; mean = mean_whole width a.texts text r a.read_of m }
 
--- and where no more of it was read, it is loaded
+-- if no more of the source was read, it is loaded
 pub source_loaded : (before now : ShelfTold) (width : SampleWidth) (piece : AskedPiece) (text : SourceText)
     (r : Result Composition Refusal)
     → AreRead before.files piece text → LeavesUnread before now piece → now.faults ≡ before.faults

@@ -16,7 +16,7 @@ first_whole : (long : Bool) (orc sco : List ℕ) (x : List Move) → IsRun orc R
 first_whole true orc sco x p = (x ++ [], (x, [], p, refl, refl), ([], refl))
 first_whole false orc sco x p = (x ++ Begin sco ∷ [], (x, Begin sco ∷ [], p, (0, refl), refl), (Begin sco ∷ [], refl))
 
--- the orchestra alone
+-- only the orchestra
 first_run : (files : Option (List NamedBytes)) (orc sco : List ℕ) (a b : Option (List Move))
     → Follows a b (Grown (IsRun orc Read))
     → Follows a b (Grown (IsFrontOf (AreReadings files (two_files orc sco))))
@@ -77,7 +77,7 @@ none_read a n = record {
   untouched = refl;
 }
 
--- the name of the last run is the one begun last
+-- the name of the last run is the one opened last
 pub last_begun : (name : List ℕ) (a b : Option (List Move)) → Follows a b (Grown (IsRun name Read)) → IsLastBegun b name
 last_begun name a None p = tt
 last_begun name None (Some y) p = absurd p

@@ -1,4 +1,4 @@
--- Files have one pair of texts for a source, or lack a name.
+-- Files have exactly one pair of texts for a source, or lack a name.
 use Rattle.std.proofs.Common.{◌≡◌, ◌≤◌, ◌⊎◌, inl, inr, Bool, true, false, ℕ, List, [], Option, Some, None, length, refl}
 use Rattle.std.proofs.Common.{ap, sym, subst, ◌∙◌, arith}
 use Rattle.std.proofs.lemmas.Bool.Decides.{nat_tests}
@@ -41,7 +41,7 @@ one_pair files (demo n) (csd a) u p q = absurd p
 one_pair files (demo n) (demo_notes a) (both b y) p q = absurd q
 one_pair files (demo n) (demo_notes a) (csd b) p q = absurd q
 
--- TEXTS OR A NAME THAT IS LACKING
+-- TEXTS, OR A NAME THAT IS MISSING
 
 abbrev Either : List NamedBytes → AskedPiece → Type 0
 Either files piece = ((t : Texts) × Have files piece t) ⊎ ((name : List ℕ) × Lack files piece name)

@@ -35,7 +35,7 @@ more_taken (Some left) b c bytes buf n r t =
           ∙ ap (λ (l : List ℕ). (bytes ++ l) ++ drop n r.0) (sym t'.1))),
     )
 
--- and these bytes more
+-- these bytes more
 pub read_on : (a b c : ShelfTold) (bytes buf : List ℕ) (n : ℕ) → ReadMore a b bytes → TakesFront b.left c.left buf n
     → Follows b.moves c.moves (GrownBy Read) → c.faults ≡ b.faults → c.files ≡ b.files
     → ReadMore a c (bytes ++ take n buf)
@@ -46,7 +46,7 @@ read_on a b c bytes buf n r t moves calm files = record {
   same = files ∙ r.same;
 }
 
--- nothing was left
+-- no rest
 pub read_end : (most : ℕ) (a b c : Option (List ℕ)) (bytes buf : List ℕ) → length bytes ≤ most → ReadSoFar a b bytes
     → TakesFront b c buf 0 → IsFrontOf most a bytes c
 read_end most None b c bytes buf h r t = tt
@@ -70,7 +70,7 @@ read_full (Some left) b bytes r = (
 not_lt : (n : ℕ) → nat_lt 0 n ≡ false → n ≡ 0
 not_lt n e = grind (arith, nat_tests)
 
--- one read more
+-- one more read
 pub block_on : (most k : ℕ) (a b c : ShelfTold) (text longer : List ℕ) (any : Bool) → length text ≤ most
     → ReadMore a b text
     → k ≡ most - length text → ReadOnce b c k text longer any → (length longer ≤ most) × ReadMore a c longer
@@ -82,7 +82,7 @@ block_on most k a b c text longer any h r e o =
           (read_on a b c text o.block n r o.taken o.made o.calm o.same),
     )
 
--- the last read, which gave none
+-- the last read, without any bytes
 pub block_end : (most k : ℕ) (a b c : ShelfTold) (text longer : List ℕ) (any : Bool) → length text ≤ most
     → ReadMore a b text
     → any ≡ false → ReadOnce b c k text longer any → IsFrontOf most a.left longer c.left
@@ -93,7 +93,7 @@ block_end most k a b c text longer any h r e o =
     subst (λ (l : List ℕ). IsFrontOf most a.left l c.left) (sym same)
     (read_end most a.left b.left c.left text o.block h r.taken t)
 
--- THE TEXT of a file that was begun
+-- THE TEXT of a file that was opened
 
 pub text_read : (most : ℕ) (files : Option (List NamedBytes)) (name text : List ℕ) (found : Bool)
     (left now : Option (List ℕ))

@@ -1,4 +1,4 @@
--- A file with both texts that is refused in its orchestra.
+-- A file with both texts whose orchestra is refused.
 use Rattle.std.proofs.Common.{[], Result, Ok, Err, refl}
 use Rattle.cs_base.specs.{Lines.excerpt, declared.fault.OrcFault.OrcFault, declared.fault.CsdFault.CsdFault}
 use Rattle.cs_base.specs.declared.width.SampleWidth.{SampleWidth}

@@ -1,4 +1,4 @@
--- What texts mean, whichever way they come: what is performed, or the first refusal.
+-- What texts mean, wherever they come from: what is performed, or the first refusal.
 use Rattle.std.specs.Prelude.{ℕ, ◌≡◌, ◌-◌, Bool, true, false, List, drop, length, nat_lt, take, Result, Ok, Err}
 use Rattle.cs_base.specs.{Faults.passed, Limits.most_csd_bytes, declared.width.SampleWidth.SampleWidth}
 use Rattle.cs_base.specs.{declared.refusal.Refusal.Refusal, declared.fault.CsdFault.CsdFault}
@@ -19,7 +19,7 @@ part_of text p = take (p.to - p.from) (drop p.from text)
 abbrev pub excerpt_of : List ℕ → Part → Excerpt
 excerpt_of text p = excerpt p.line (part_of text p)
 
--- two texts that are files of their own
+-- two texts in separate files
 abbrev pub FilesMean : SampleWidth → List ℕ → List ℕ → Result Composition Refusal → Type 0
 FilesMean width orchestra score r = means width (whole_file orchestra) (whole_file score) r
 
@@ -28,12 +28,12 @@ abbrev pub PartsMean : SampleWidth → List ℕ → Result Parts CsdFault → Re
 PartsMean width text (Err f) r = r ≡ Err (why.Csd f)
 PartsMean width text (Ok p) r = means width (excerpt_of text p.orc) (excerpt_of text p.sco) r
 
--- a file that is too long or not: its tags aren't read where it is
+-- a file, too long or not: the tags of a file that is too long aren't read
 abbrev pub FileMeans : Bool → SampleWidth → List ℕ → Result Composition Refusal → Type 0
 FileMeans true width text r = r ≡ Err (passed limit.CsdBytes)
 FileMeans false width text r = (p : Result Parts CsdFault) × Reading text p × PartsMean width text p r
 
--- What texts mean. The demo's texts are told as files of their own.
+-- What texts mean. The demo's texts count as two separate files.
 abbrev pub Mean : SampleWidth → Texts → Result Composition Refusal → Type 0
 Mean width (both orchestra score) r = FilesMean width orchestra score r
 Mean width (csd text) r = FileMeans (nat_lt most_csd_bytes (length text)) width text r

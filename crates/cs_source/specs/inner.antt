@@ -1,3 +1,3 @@
--- What private clauses alone cite.
+-- Definitions that only private clauses cite.
 pub mod Read
 pub mod Reading

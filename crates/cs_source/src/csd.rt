@@ -6,7 +6,7 @@ ghost use Rattle.cs_source.specs.Meaning.{excerpt_of, part_of};
 use cs_base::Excerpt;
 use cs_csd::Part;
 
-/// The text of a part, which begins on the part's line of the file.
+/// Returns the text of a part, which begins on the part's line of the file.
 pub fn excerpt_of<'a>(text: &'a [u8], part: Part) -> Excerpt<'a>
     requires { part.line ≤ most_csd_bytes + 1 }
     ensures { result ≡ excerpt_of text.now part }

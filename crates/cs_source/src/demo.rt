@@ -9,14 +9,14 @@ const ORCHESTRA: &[u8] = b"sr = 8000\nksmps = 16\nnchnls = 1\nga1 init 0\n\
     instr 2\na1 oscili p4, p5, 1\nga1 += a1\nendin\n\
     instr 90\na1 delay ga1, .05\nout a1\nga1 = 0\nendin\n";
 
-/// The demo's orchestra, the same for any number of notes.
+/// Returns the demo's orchestra, which is the same for any number of notes.
 pub fn demo_orchestra(alloc: Global) -> Result<Vec<u8>, AllocError>
     ensures { IfOk result (λ text. text.items ≡ orchestra) }
 {
     Vec::from_slice(alloc, ORCHESTRA)
 }
 
-/// The demo's score for `notes` notes, which last a second each; 64 of them begin with each second.
+/// Returns the demo's score for `notes` notes, each of which lasts a second; 64 of them begin in each second.
 pub fn demo_score(alloc: Global, notes: u32) -> Result<Vec<u8>, AllocError>
     ensures { IfOk result (λ text. text.items ≡ score notes) }
 {
@@ -26,7 +26,7 @@ pub fn demo_score(alloc: Global, notes: u32) -> Result<Vec<u8>, AllocError>
     Ok(text)
 }
 
-// Adds the lines of the first notes.
+// Appends the lines of the first `notes` notes.
 fn add_notes(alloc: Global, notes: u32, text: &mut Vec<u8>) -> Result<(), AllocError>
     ensures { IfOk result (λ _. text.new.items ≡ text.old.items ++ note_lines notes) }
 {
@@ -49,7 +49,7 @@ fn add(line: &str, text: &mut Vec<u8>) -> Result<(), AllocError>
     Ok(())
 }
 
-// A note's line.
+// Returns a note's line.
 fn note(alloc: Global, number: u32) -> Result<String, AllocError>
     ensures { IfOk result (λ line. string_bytes line ≡ note_line number) }
 {
@@ -60,14 +60,14 @@ fn note(alloc: Global, number: u32) -> Result<String, AllocError>
     format!(in alloc; "i{instrument} {start} 1 {loudness} {frequency}\n")
 }
 
-// The instrument that plays a note.
+// Returns the number of the instrument that plays a note.
 fn instrument(number: u32) -> u32
     ensures { result ≡ instrument_of number }
 {
     if number % 8 == 0 { 2 } else { 1 }
 }
 
-// The lines after the notes.
+// Returns the lines after the notes.
 fn last(alloc: Global, notes: u32) -> Result<String, AllocError>
     ensures { IfOk result (λ lines. string_bytes lines ≡ last_lines notes) }
 {

@@ -1,14 +1,14 @@
-//! Where a piece comes from: two files of a shelf, one file with both texts, or the demo.
+//! The source of a piece: two files of a shelf, one file with both texts, or the demo.
 //!
-//! Its one contract: `load` returns a setup of what the texts of the source mean (`Mean`, specs/Meaning), or their
-//! first refusal with its line in the file in which it stands; or the name that can't be read. Of a text one byte
-//! more is read than it may have at most, and files have one pair of texts, which mean one thing (`laws`). The demo's
-//! two texts are those of specs/DemoTexts. How texts are read, kept, parted and put together may be changed without
-//! anyone above noticing.
+//! The one contract: `load` returns a setup of what the texts of the source mean (`Mean`, specs/Meaning), or
+//! their first refusal with its line in the file that contains it, or the name that can't be read. A text is
+//! read up to one byte past its limit. Files have at most one pair of texts, which has exactly one meaning
+//! (`laws`). specs/DemoTexts defines the demo's two texts. How texts are read, stored, split and put together
+//! may be changed without anyone above noticing.
 //!
-//! To be read in this order: `demo` (the demo's texts), `read` (one text of a shelf), `source` (those of a source),
-//! `csd` (the parts of one file with both), `meaning` (what they are compiled to), `loading` (`load`), `laws`,
-//! `worked` (sound files and refusals worked out by hand).
+//! In reading order: `demo` (the demo's texts), `read` (one text of a shelf), `source` (the texts of a
+//! source), `csd` (the parts of one file with both texts), `meaning` (compiling them), `loading` (`load`),
+//! `laws`, `worked` (sound files and refusals worked out by hand).
 #![tactic(auto)]
 
 mod csd;

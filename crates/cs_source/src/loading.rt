@@ -14,19 +14,20 @@ use cs_edge::Shelf;
 use cs_piece::Setup;
 use std::alloc::Global;
 
-/// Why there is no piece.
+/// The reason why there is no piece.
 #[derive(Clone, Copy)]
 pub enum LoadFault<'a> {
-    /// The text of this name can't be read: the shelf failed, or lacks it.
+    /// The text with this name can't be read: the shelf failed, or lacks it.
     Unread(&'a str),
     /// The texts are refused.
     Refused(Refusal),
     OutOfMemory,
 }
 
-/// What the piece of a source needs to be performed, in samples of this width; or the first refusal of its texts, or
-/// the name that can't be read; or out of memory. Texts are read before any is refused, but the score isn't begun
-/// behind an orchestra of more than 1,048,576 bytes. The demo leaves the shelf as it was.
+/// Returns everything that the piece of a source needs to be performed, in samples of width `width`; or the
+/// first refusal of its texts, the name that can't be read, or out of memory. Both texts are read before
+/// either is refused, but the score isn't opened after an orchestra of more than 1,048,576 bytes. The demo
+/// leaves the shelf as it was.
 pub fn load<'a, F: Shelf>(
     alloc: Global,
     shelf: &mut F,
@@ -35,13 +36,13 @@ pub fn load<'a, F: Shelf>(
 ) -> Result<Setup, LoadFault<'a>>
     ensures piece { IfOk result (λ s. IsLoaded (F.tells shelf.old) (F.tells shelf.new) width (piece_in source.now)
         (Ok (composition_of s))) }
-    // The samples of the piece fit a sound file.
+    // The samples of the piece fit into a sound file.
     ensures within { IfOk result (λ s. FitsFile width s) }
     ensures refused { (r : Refusal) → result ≡ Err (unloaded.Refused r)
         → IsLoaded (F.tells shelf.old) (F.tells shelf.new) width (piece_in source.now) (Err r) }
     ensures unread { (name : _) → result ≡ Err (unloaded.Unread name)
         → CannotRead (F.tells shelf.old) (F.tells shelf.new) (piece_in source.now) name.now }
-    // Where memory was refused no call of the shelf had failed.
+    // If memory ran out, no call of the shelf had failed.
     ensures starved { IsErrOf result LoadFault.OutOfMemory → (F.tells shelf.new).faults ≡ (F.tells shelf.old).faults }
     ensures shelf { WasRead (F.tells shelf.old) (F.tells shelf.new) (piece_in source.now) }
     ensures files { (F.tells shelf.new).files ≡ (F.tells shelf.old).files }

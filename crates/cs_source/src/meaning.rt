@@ -1,4 +1,4 @@
-// What the texts of a source are compiled to.
+// Compiling the texts of a source.
 ghost use Rattle.std.specs.Prelude.{◌≡◌, ◌≤◌, Err, IfOk, Ok, length, nat_lt};
 ghost use Rattle.cs_base.specs.Limits.{most_csd_bytes};
 ghost use Rattle.cs_base.specs.declared.fault.Or.TheVariants as or;
@@ -15,7 +15,8 @@ use cs_csd::{Parts, parts_begin_on_their_lines, split_csd};
 use cs_piece::Setup;
 use std::alloc::Global;
 
-/// What the piece of the texts needs to be performed, in samples of this width; or their first refusal.
+/// Returns everything that the piece of the texts needs to be performed, in samples of width `width`, or
+/// their first refusal.
 pub fn compile_source(
     alloc: Global,
     source: &SourceText,
@@ -35,7 +36,7 @@ pub fn compile_source(
     }
 }
 
-// The same of one file with both texts.
+// Does the same for one file with both texts.
 fn compile_file(alloc: Global, text: &[u8], width: SampleWidth) -> Result<Setup, Or<Refusal>>
     ensures piece { IfOk result (λ s. FileMeans (nat_lt most_csd_bytes (length text.now)) width text.now
         (Ok (composition_of s))) }
@@ -53,7 +54,7 @@ fn compile_file(alloc: Global, text: &[u8], width: SampleWidth) -> Result<Setup,
     }
 }
 
-// The same of a file whose tags were read.
+// Does the same for a file whose tags were read.
 fn compile_parts(
     alloc: Global,
     text: &[u8],

@@ -1,4 +1,4 @@
-// A text of a shelf, read to its end or as far as it may be read.
+// A text of a shelf, read to its end or up to a limit.
 ghost use Rattle.std.specs.Prelude.{◌≡◌, ◌≤◌, ◌<◌, ◌⊎◌, [], length, Err, IfOk, OnOk, IsErrOf};
 ghost use Rattle.cs_base.specs.declared.fault.Or.TheVariants as or;
 ghost use Rattle.cs_edge.specs.{declared.moves.Move.TheVariants.Read, Told.Follows, Told.Rose, Files.Lacks};
@@ -9,7 +9,8 @@ use cs_base::Or;
 use cs_edge::{Failed, Shelf};
 use std::alloc::Global;
 
-/// The first bytes of the file of that name, `most` at most; or the name, where the shelf failed or lacks it.
+/// Returns the first bytes of the file named `name`, at most `most`, or an error with the name if the shelf
+/// failed or lacks it.
 pub fn read_text<'a, F: Shelf>(
     alloc: Global,
     shelf: &mut F,
@@ -39,7 +40,7 @@ pub fn read_text<'a, F: Shelf>(
     }
 }
 
-/// Reads until the text is so long, or nothing is left.
+// Reads until the text has `most` bytes or the input ends.
 fn fill<F: Shelf>(shelf: &mut F, text: &mut Vec<u8>, most: usize) -> Result<(), Or<Failed>>
     requires { text.old.items ≡ [] }
     ensures front { OnOk result (IsFrontOf most (F.tells shelf.old).left text.new.items (F.tells shelf.new).left) }
@@ -62,10 +63,10 @@ fn fill<F: Shelf>(shelf: &mut F, text: &mut Vec<u8>, most: usize) -> Result<(), 
     Ok(())
 }
 
-/// The most bytes that are asked for at once.
+// The highest number of bytes of one read.
 const BLOCK: usize = 4_096;
 
-/// One read: adds what it gives behind the text, `most` bytes at most, and returns whether it gave any.
+// Reads once: appends the bytes read to the text, at most `most`, and returns whether there were any.
 fn read_block<F: Shelf>(shelf: &mut F, text: &mut Vec<u8>, most: usize) -> Result<bool, Or<Failed>>
     requires { 0 < most }
     ensures read { IfOk result (λ more. ReadOnce (F.tells shelf.old)

@@ -12,16 +12,17 @@ use cs_base::{MOST_CSD_BYTES, MOST_ORCHESTRA_BYTES, MOST_SCORE_BYTES, Or};
 use cs_edge::Shelf;
 use std::alloc::{AllocError, Global};
 
-/// The texts of a source, of each one byte more than it may have at most.
+/// The texts of a source; each is read up to one byte past its limit, so that an overlong text can be
+/// recognised.
 #[derive(Drop)]
 pub enum SourceText {
-    /// An orchestra and a score; the score is empty behind an orchestra that is too long.
+    /// An orchestra and a score; the score is empty if the orchestra is too long.
     Pair { orchestra: Vec<u8>, score: Vec<u8> },
-    /// One file with both.
+    /// One file with both texts.
     Csd { text: Vec<u8> },
 }
 
-/// Reads what the words ask for, or returns the name that can't be read.
+/// Reads the texts that the arguments ask for, or returns the name that can't be read.
 pub fn read_source<'a, F: Shelf>(
     alloc: Global,
     shelf: &mut F,
@@ -49,7 +50,7 @@ pub fn read_source<'a, F: Shelf>(
     }
 }
 
-// Reads an orchestra and a score. Where the orchestra is too long, the score isn't begun.
+// Reads an orchestra and a score. If the orchestra is too long, the score isn't opened.
 fn read_files<'a, F: Shelf>(
     alloc: Global,
     shelf: &mut F,
@@ -74,7 +75,7 @@ fn read_files<'a, F: Shelf>(
     Ok(SourceText::Pair { orchestra, score })
 }
 
-// The texts of the demo.
+// Returns the texts of the demo.
 fn demo_texts(alloc: Global, notes: u32) -> Result<SourceText, AllocError>
     ensures { IfOk result (λ text. IsReadOf (demo_notes notes) text) }
 {

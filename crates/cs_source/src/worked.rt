@@ -1,4 +1,5 @@
-// Sound files and refusals worked out by hand: calls that do nothing, whose contracts are the examples.
+// Sound files and refusals worked out by hand: calls that do nothing as they run, whose contracts are the
+// examples.
 ghost use Rattle.std.specs.Prelude.{Err};
 ghost use Rattle.cs_base.specs.declared.fault.OrcKind.TheVariants as orc;
 ghost use Rattle.cs_base.specs.declared.refusal.Refusal.TheVariants as why;
@@ -10,7 +11,7 @@ ghost use Rattle.cs_source.specs.Worked.{fault_in_line_4, narrow_file, wide_file
 
 use cs_compile::texts_worked_by_hand;
 
-/// The sound of two small texts byte for byte, in samples of either width; and a refusal.
+/// For the prover: the sound of two small texts byte by byte, in samples of either width; and a refusal.
 pub fn sounds_worked_by_hand()
     ensures narrow { IsSoundOf (both fourth_field note_of_100) TwoBytes narrow_file }
     ensures wide { IsSoundOf (both fourth_field note_of_100) ThreeBytes wide_file }
@@ -20,7 +21,8 @@ pub fn sounds_worked_by_hand()
     texts_worked_by_hand();
 }
 
-/// A fault in the first line behind `<CsInstruments>`, where that tag stands in line 3, is at line 4 of the file.
+/// For the prover: a fault in the first line after `<CsInstruments>`, with that tag in line 3, is at line 4
+/// of the file.
 pub fn lines_worked_by_hand()
     ensures { (width : SampleWidth) → Mean width (csd fault_in_line_4)
         (Err (why.Orc (record { line = 4; kind = orc.BadToken }))) }

@@ -1,6 +1,6 @@
-//! The program: on a thread with a stack of its own it makes the objects of the edge and calls `csplay` with the words
-//! behind its name, or `csplay_alone` where they ask for one worker; it ends with the status's number. All that it
-//! promises is the contract that these calls have.
+//! The program: on a separate thread it makes the objects of the edge and calls `csplay` with the
+//! command-line arguments, or `csplay_alone` if they ask for one worker; the exit status is the status's
+//! number. Its only promise is the contract of these calls.
 #![tactic(auto)]
 
 use cs_desk::Tally;
@@ -11,18 +11,26 @@ use std::process::ExitCode;
 use std::rt::{Env, Files};
 use std::sync::Wait;
 use std::thread::{Builder, Threads};
-use std::{env, io};
+use std::{env, fs, io};
 
-/// The bytes of stack that the program's thread has. Five times what the deepest text that was found needs.
+// The stack size in bytes of the program's thread: five times what the deepest text found needs.
 const STACK: usize = 1 << 24;
 
-/// The bytes of stack where the system gives no thread with `STACK`: more than the deepest text that was found needs.
+// The stack size in bytes if memory for `STACK` and a run can't be had: more than the deepest text found needs.
 const SMALL_STACK: usize = 1 << 22;
 
-/// Runs on a thread of its own, so that the stack that the system gives a program doesn't matter. Where none can be
-/// started the run ends as out of memory.
+// The memory in bytes that is left for a run beside a stack of `STACK` bytes. With less a small stack serves better.
+// Both together are more than 32 MB: after a smaller block is given back, the C library takes blocks of up to its size
+// from its heap, where a list that grows is copied.
+const LEAST_MEMORY: usize = 20 << 20;
+
+// The file on which a closed descriptor is opened for reading: reads find no byte there, and writes fail.
+const NULL_DEVICE: &str = "/dev/null";
+
+// Runs on a separate thread, so that the size of the stack on which the system starts a program doesn't
+// matter. If no thread can be started the run ends as out of memory.
 fn main(rt: HostRuntime) -> ExitCode {
-    let builder = Builder::new().stack_size(STACK);
+    let builder = Builder::new().stack_size(stack_size(&rt));
     let status = match builder.spawn(&rt, move || run(&rt)) {
         Ok(thread) => thread.join(&rt),
         Err(_) => {
@@ -36,15 +44,37 @@ fn main(rt: HostRuntime) -> ExitCode {
     ExitCode::from(status.number())
 }
 
-/// The words behind the program's name are read, and followed.
+// Returns the stack size of the program's thread: `STACK` if there is memory for it and for a run, `SMALL_STACK`
+// otherwise. The memory is asked for and given back at once.
+fn stack_size<R: AllocGlobal>(rt: &R) -> usize {
+    match Vec::<u8>::with_capacity(rt.alloc(), STACK + LEAST_MEMORY) {
+        Ok(_) => STACK,
+        Err(_) => SMALL_STACK,
+    }
+}
+
+// Reads the command-line arguments and performs what they ask for. The descriptors 0 to 2 stay in use meanwhile, so
+// no file that is opened gets the number of standard output, and no report is written into a sound file.
 fn run<R: Env + Files + Print + AllocGlobal + Threads + Wait + Sync>(rt: &R) -> Status {
+    let _input = opened_if_closed(rt, "/dev/fd/0");
+    let _output = opened_if_closed(rt, "/dev/fd/1");
+    let _errors = opened_if_closed(rt, "/dev/fd/2");
     match words_of(rt) {
         Ok(words) => follow(rt, &words),
         Err(_) => starved(rt),
     }
 }
 
-/// Follows the words with a meter of the peak.
+// Opens the null device if the descriptor with this name is closed. Called for the descriptors in ascending order, so
+// the system gives it that number. Without `/proc` every descriptor looks closed, and up to three more are used.
+fn opened_if_closed<R: Files>(rt: &R, descriptor: &str) -> Option<R::File> {
+    match fs::metadata(rt, descriptor) {
+        Ok(_) => None,
+        Err(_) => fs::open(rt, NULL_DEVICE).ok(),
+    }
+}
+
+// Performs what the arguments ask for, with a meter of the peak.
 fn follow<R: Files + Print + AllocGlobal + Threads + Wait + Sync>(
     rt: &R,
     words: &[String],
@@ -55,8 +85,8 @@ fn follow<R: Files + Print + AllocGlobal + Threads + Wait + Sync>(
     }
 }
 
-/// Follows the words with this meter. It becomes one of a list here, since a function that hands such a list out isn't
-/// proved.
+// Performs what the arguments ask for, with this meter. The list of meters is made here, since a function
+// that returns such a list can't be proved.
 fn metered<R: Files + Print + AllocGlobal + Threads + Wait + Sync>(
     rt: &R,
     words: &[String],
@@ -69,8 +99,8 @@ fn metered<R: Files + Print + AllocGlobal + Threads + Wait + Sync>(
     }
 }
 
-/// Follows the words over the system's files and standard output, and writes what waits there for its line feed. Where
-/// they ask for one worker the call has no runtime, so it waits for nobody.
+// Performs what the arguments ask for with the system's files and standard output, and writes the buffered
+// rest of the last line. If they ask for one worker the call has no runtime, so it waits for no thread.
 fn play<R: Files + Print + AllocGlobal + Threads + Wait + Sync>(
     rt: &R,
     words: &[String],
@@ -89,7 +119,8 @@ fn play<R: Files + Print + AllocGlobal + Threads + Wait + Sync>(
     ended(status, talk.end())
 }
 
-/// The status of a run whose talk ended so: a report that isn't written to its end is a TalkFault.
+// Returns the status of a run after the last write to `talk`: a report that isn't written to its end is a
+// TalkFault.
 fn ended(status: Status, last: Result<(), Failed>) -> Status {
     match (status, last) {
         (Status::Ok, Err(_)) => Status::TalkFault,
@@ -97,7 +128,7 @@ fn ended(status: Status, last: Result<(), Failed>) -> Status {
     }
 }
 
-/// Memory was refused before the call.
+// Ends as out of memory before the call.
 fn starved<R: Print + AllocGlobal>(rt: &R) -> Status {
     match write_all(
         &mut TalkOut::new(io::writer(rt), rt.alloc()),
@@ -107,7 +138,8 @@ fn starved<R: Print + AllocGlobal>(rt: &R) -> Status {
     }
 }
 
-/// The words behind the program's name; none where one isn't UTF-8, so that the program says how it is used.
+// Returns the command-line arguments, or none if one of them isn't UTF-8, so that the program prints its
+// usage.
 fn words_of<R: Env + AllocGlobal>(rt: &R) -> Result<Vec<String>, AllocError> {
     match env::args(rt) {
         Ok(args) => args.skip(1).collect(rt.alloc()),

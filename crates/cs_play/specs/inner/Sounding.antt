@@ -1,4 +1,4 @@
--- What a performance and its report come to, by the status that they end with.
+-- The results of a performance and its report, by the status with which they end.
 use Rattle.std.specs.Prelude.{ℕ, ◌≡◌, ◌++◌, List, [], Result, Ok, Err, flat_map}
 use Rattle.cs_arguments.specs.Orders.{asked_in}
 use Rattle.cs_edge.specs.Moves.{SinkTold, WroteMore, WrotePart}
@@ -12,7 +12,7 @@ use Rattle.cs_report.specs.{declared.counts.PerformanceCounts.PerformanceCounts,
 use Rattle.cs_play.specs.declared.player.Played.TheVariants as what
 use Rattle.cs_report.specs.declared.status.Status.TheVariants as status
 
--- the counts that the performer answered
+-- the counts that the performer returned
 abbrev pub counts_told : Outcome → PerformanceCounts
 counts_told o = record {
   frames = o.frames;
@@ -22,7 +22,7 @@ counts_told o = record {
   out_of_range = o.out_of_range;
 }
 
--- What was prepared was performed: a piece as it was asked for, and nothing where there is none.
+-- What was prepared was performed: a piece as the arguments ask for it, or nothing if there is no piece.
 abbrev pub HasPlayed : {B K C : Type 0} → LentSight B K C → Result Prepared Status → Lent B K C → Lent B K C
     → Played → Type 0
 HasPlayed see (Ok p) before now (what.Piece r) =
@@ -30,14 +30,14 @@ HasPlayed see (Ok p) before now (what.Piece r) =
 HasPlayed see (Err s) before now (what.Nothing t) = (t ≡ s) × (now ≡ before)
 HasPlayed see _ before now _ = ⊥
 
--- talk has a report: the whole at Ok, the front of it at TalkFault
+-- `talk` has a report: the complete one at Ok, a prefix of it at TalkFault
 abbrev pub HasReported : SinkTold → SinkTold → List ℕ → Status → Type 0
 HasReported before now text status.Ok = WroteMore before now text
 HasReported before now text status.TalkFault = WrotePart before now text
 HasReported before now text _ = ⊥
 
--- What came of a performance was said: the report, with the lines of these meters, or the line of the status, which for
--- a piece that there isn't has been said before.
+-- The result of a performance was printed: the report, with the lines of these meters, or the line of the
+-- status; if there is no piece, the line was printed before.
 abbrev pub HasSaid : {T B : Type 0} → (T → SinkTold) → (B → ℕ → List ℕ) → Played → List B → T → T → Status → Type 0
 HasSaid tells line (what.Piece (Ok o)) taps before now s = HasReported (tells before) (tells now)
     (counts_in (counts_told o) ++ flat_map (λ tap. line tap line_room) taps ++ o.turns) s

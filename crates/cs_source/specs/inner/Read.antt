@@ -12,12 +12,12 @@ use Rattle.cs_base.specs.declared.fault.Or.TheVariants as or
 use Rattle.cs_source.specs.DemoTexts as demo_texts
 use Rattle.cs_source.specs.declared.source.SourceText.TheVariants as read
 
--- a fault of which P holds, or out of memory
+-- a fault for which P holds, or out of memory
 abbrev pub IfFault : {F : Type 0} → Or F → (F → Type 0) → Type 0
 IfFault (or.Fault f) P = P f
 IfFault or.OutOfMemory P = ⊤
 
--- what was read is one byte more of each text than it may have at most, or all of it
+-- each text was read up to one byte past its limit, or to its end
 abbrev pub IsReadOf : Texts → SourceText → Type 0
 IsReadOf (both orchestra score) (read.Pair x y) =
     (x.items ≡ take (most_orchestra_bytes + 1) orchestra) × (y.items ≡ take (most_score_bytes + 1) score)
@@ -25,14 +25,14 @@ IsReadOf (csd text) (read.Csd x) = x.items ≡ take (most_csd_bytes + 1) text
 IsReadOf (demo_notes n) (read.Pair x y) = (x.items ≡ demo_texts.orchestra) × (y.items ≡ demo_texts.score n)
 IsReadOf _ _ = ⊥
 
--- Texts of a source, those that the files have where they are told, were read.
+-- Texts of a source were read; the files contain them if the shelf tells its files.
 pub record AreRead (files : Option (List NamedBytes)) (piece : AskedPiece) (text : SourceText) : Type 0 where
   pub texts : Texts
   pub fit : Fit piece texts
   pub have : HaveWhereTold files piece texts
   pub read_of : IsReadOf texts text
 
--- what was read means this
+-- the meaning of what was read
 abbrev pub MeansAsRead : SampleWidth → SourceText → Result Composition Refusal → Type 0
 MeansAsRead width (read.Pair x y) r = FilesMean width x.items y.items r
 MeansAsRead width (read.Csd x) r = FileMeans (nat_lt most_csd_bytes (length x.items)) width x.items r

@@ -1,21 +1,21 @@
--- A text of a shelf, read to its end or as far as it may be read.
+-- A text of a shelf, read to its end or up to a limit.
 use Rattle.std.specs.Prelude.{ℕ, ◌≡◌, ◌≤◌, nat_lt, Bool, List, ◌++◌, length, take, drop, Option, None, Some, ⊤}
 use Rattle.cs_edge.specs.{declared.files.NamedBytes.NamedBytes, declared.moves.Move.TheVariants.Read, Told.Follows}
 use Rattle.cs_edge.specs.{Moves.Grown, Moves.GrownBy, Moves.AreAll, Files.ShelfTold, Files.TakesFront, Files.file_named}
 
--- what has been read stands at the front of what was left, where that is told
+-- the text read so far is a prefix of the earlier rest, if the shelf tells its rest
 abbrev pub ReadSoFar : Option (List ℕ) → Option (List ℕ) → List ℕ → Type 0
 ReadSoFar None now text = ⊤
 ReadSoFar (Some left) now text = (rest : List ℕ) × (now ≡ Some rest) × (left ≡ text ++ rest)
 
--- A shelf has given these bytes more, in some number of reads, of which none failed.
+-- These bytes were read from a shelf, in some number of reads, none of which failed.
 pub record ReadMore (before now : ShelfTold) (bytes : List ℕ) : Type 0 where
   pub taken : ReadSoFar before.left now.left bytes
   pub made : Follows before.moves now.moves (Grown (AreAll Read))
   pub calm : now.faults ≡ before.faults
   pub same : now.files ≡ before.files
 
--- A shelf has given some bytes in one read, `most` at most, which stand behind the text; and whether it gave any.
+-- One read of a shelf appended at most `most` bytes to the text; `any` says whether there were any.
 pub record ReadOnce (before now : ShelfTold) (most : ℕ) (text longer : List ℕ) (any : Bool) : Type 0 where
   pub block : List ℕ
   pub count : ℕ
@@ -27,19 +27,20 @@ pub record ReadOnce (before now : ShelfTold) (most : ℕ) (text longer : List �
   pub same : now.files ≡ before.files
   pub any_is : any ≡ nat_lt 0 count
 
--- The first bytes of what was left, `most` at most, have been read, and what follows them is left; where that is
--- told.
+-- The first bytes of the earlier rest, at most `most`, were read, and the rest now follows them; if the shelf
+-- tells its rest.
 abbrev pub IsFrontOf : ℕ → Option (List ℕ) → List ℕ → Option (List ℕ) → Type 0
 IsFrontOf most None text now = ⊤
 IsFrontOf most (Some left) text now = (text ≡ take most left) × (now ≡ Some (drop most left))
 
--- Where the files are told, one has that name, and all but its first bytes, `most` at most, are left.
+-- If the shelf tells its files, one has that name, and everything after its first bytes, at most `most`, is
+-- left.
 abbrev pub LeavesRest : ℕ → Option (List NamedBytes) → List ℕ → Option (List ℕ) → Type 0
 LeavesRest most None name left = ⊤
 LeavesRest most (Some files) name left =
     (bytes : List ℕ) × (file_named name files ≡ Some bytes) × (left ≡ Some (drop most bytes))
 
--- the first bytes of the file of that name, `most` at most, where the files are told
+-- the first bytes of the file with that name, at most `most`, if the shelf tells its files
 abbrev pub IsTextOf : ℕ → Option (List NamedBytes) → List ℕ → List ℕ → Type 0
 IsTextOf most None name text = ⊤
 IsTextOf most (Some files) name text =
