@@ -1,4 +1,4 @@
--- Places that ascend below a number.
+-- Indexes that ascend below a number.
 use Rattle.std.proofs.Common.{◌≡◌, ℕ, ◌+◌, ◌<◌, ◌≤◌, ⊎_elim, List, [], ◌∷◌, ◌++◌, length, get_or, sym, arith}
 use Rattle.std.proofs.lemmas.{Bool.cases_lt, List.get_or_append_left, List.get_or_push, List.length_push}
 use Rattle.std.specs.List.Sorted.{IsStrictlyIncreasing}

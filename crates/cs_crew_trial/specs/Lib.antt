@@ -1,2 +1,4 @@
+pub mod AddingFrames
+pub mod Addings
 pub mod Marks
 pub mod Playing

@@ -3,6 +3,7 @@ use Rattle.std.specs.Prelude.{◌≡◌, List, length, refl}
 use Rattle.cs_cells.specs.{Areas.IsFootprint, declared.footprint.Area.Area, Meaning.Frames, Meaning.Meaning}
 use Rattle.cs_crew_trial.specs.declared.marked.Marked.{Marked}
 
+-- a marked job as a job
 abbrev pub marking : Meaning Marked
 marking = record {
   areas = λ j. j.layout.now;
@@ -23,6 +24,6 @@ marking_frames = record {
   areas_after = λ j c. refl;
 }
 
--- the job's layout is this one, and its footprint lies in it
+-- the job has this layout, and its footprint is within it
 abbrev pub IsOver : {J : Type 0} → Meaning J → List Area → J → Type 0
 IsOver M areas j = (M.areas j ≡ areas) × IsFootprint (length areas) (M.foot j)

@@ -13,6 +13,7 @@ module _ {J : Type 0} (M : Meaning J) where
   IsInPhase Ran v = HasRun M v
   IsInPhase Over v = IsIdle v
 
+  -- the player's seat belongs to the board and may make its next call
   pub record IsPlayer (board : Board J) (p : Player J) : Type 0 where
     pub seat : IsSeatOf M (plan board) (name board) p.seat
     pub phase : IsInPhase p.phase (view p.seat)

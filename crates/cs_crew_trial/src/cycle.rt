@@ -1,6 +1,7 @@
-// A desk with the graph of marked jobs, and a cycle of them by a crew of its own.
+// A desk with the graph of marked jobs, and a cycle of them with a separate crew.
 ghost use Rattle.std.specs.Prelude.{◌≡◌, ◌≤◌, length, map, All, IfSome};
 ghost use Rattle.cs_base.specs.Limits.{most_notes};
+ghost use Rattle.cs_board.specs.{Board.IsSeatOf, Board.name, Board.plan, Board.view, Views.opening_view};
 ghost use Rattle.cs_cells.specs.Areas.{IsFootprint};
 ghost use Rattle.cs_desk.specs.{Cycles.AreOver, Desk.HasRoom, Desk.areas};
 ghost use Rattle.cs_graph.specs.Graph.{IsFit};
@@ -9,6 +10,7 @@ ghost use Rattle.cs_crew_trial.specs.Marks.{IsOver};
 use crate::marked::{areas, jobs_of};
 use crate::watch::{Seen, Watch};
 use cs_base::{MOST_NOTES, Num};
+use cs_board::{Board, BoardSeat};
 use cs_cells::{Bank, Job, Layout, PlainBank};
 use cs_desk::{Desk, Tally, feet_of};
 use cs_edge::Gate;
@@ -28,7 +30,7 @@ pub fn marks_of(alloc: Global, notes: usize) -> Result<Vec<AtomicU64>, AllocErro
     Ok(marks)
 }
 
-/// Returns the layout of marked jobs. None if memory runs out.
+/// Returns the layout of marked jobs, or None if memory runs out.
 pub fn layout(alloc: Global) -> Option<Layout>
     ensures { IfSome result (λ layout. length layout ≡ 6) }
 {
@@ -41,7 +43,7 @@ pub fn layout(alloc: Global) -> Option<Layout>
     Some(layout)
 }
 
-/// Returns the graph of these jobs. None if memory runs out.
+// Returns the graph of these jobs, or None if memory runs out.
 fn graph_of<J: Job>(alloc: Global, jobs: &[J]) -> Option<Graph>
     requires { length jobs.now ≤ most_notes }
     ensures notes { IfSome result (λ g. length g.levels ≡ length jobs.now) }
@@ -56,21 +58,24 @@ fn graph_of<J: Job>(alloc: Global, jobs: &[J]) -> Option<Graph>
     }
 }
 
-/// Returns a desk over the layout of these jobs, and their graph. None if memory runs out.
-pub fn desk_for<J: Job + Drop>(
+// Returns a desk with the layout of these jobs, where each cell has this number, and their graph, or None if
+// memory runs out.
+fn desk_for<J: Job + Drop>(
     alloc: Global,
     layout: &Layout,
+    number: u64,
     jobs: &[J],
 ) -> Option<(Desk<J>, Arc<Graph, Global>)>
     requires few { length jobs.now ≤ most_notes }
     requires over { All (IsOver J.means layout.now) jobs.now }
     ensures notes { IfSome result (λ d. length d.1.value.levels ≡ length jobs.now) }
     ensures fit { IfSome result (λ d. IsFit (map J.means.foot jobs.now) d.1.value.edges) }
+    ensures areas { IfSome result (λ d. areas d.0 ≡ layout.now) }
     ensures over { IfSome result (λ d. AreOver J.means d.0 jobs.now) }
     ensures footprints { IfSome result (λ d. All (λ j. IsFootprint (length (areas d.0)) (J.means.foot j)) jobs.now) }
     ensures room { IfSome result (λ d. HasRoom d.0 (length jobs.now) (length d.1.value.edges)) }
 {
-    let Ok(words) = vec![in alloc; 0u64; layout.words() as usize] else {
+    let Ok(words) = vec![in alloc; number; layout.words() as usize] else {
         return None;
     };
     let Some(graph) = graph_of(alloc, jobs) else {
@@ -86,7 +91,26 @@ pub fn desk_for<J: Job + Drop>(
     }
 }
 
-/// Runs one cycle of these jobs, and returns how many its receipt has. None if memory runs out.
+/// Returns a board of these jobs, where each cell has this number, and its first seat, or None if memory runs out.
+pub fn opened<J: Job + Drop>(
+    alloc: Global,
+    layout: &Layout,
+    number: u64,
+    jobs: Vec<J>,
+) -> Option<(Board<J>, BoardSeat<J>)>
+    requires few { length jobs.items ≤ most_notes }
+    requires over { All (IsOver J.means layout.now) jobs.items }
+    ensures seat { IfSome result (λ b. IsSeatOf J.means (plan b.0) (name b.0) b.1) }
+    ensures view { IfSome result (λ b. view b.1 ≡ opening_view (plan b.0)) }
+    ensures areas { IfSome result (λ b. (plan b.0).areas ≡ layout.now) }
+{
+    let Some((desk, graph)) = desk_for(alloc, layout, number, &jobs) else {
+        return None;
+    };
+    Some(desk.open(graph, jobs))
+}
+
+// Runs one cycle of these jobs, and returns the number of jobs in its receipt, or None if memory runs out.
 fn run_once<J: Job + Send + Drop, R: Threads + Wait + Sync, G: Gate + Sync>(
     alloc: Global,
     crew: &Crew<'_, R, G>,
@@ -96,7 +120,7 @@ fn run_once<J: Job + Send + Drop, R: Threads + Wait + Sync, G: Gate + Sync>(
     requires few { length jobs.items ≤ most_notes }
     requires over { All (IsOver J.means layout.now) jobs.items }
 {
-    let Some((desk, graph)) = desk_for(alloc, layout, &jobs) else {
+    let Some((desk, graph)) = desk_for(alloc, layout, 0, &jobs) else {
         return None;
     };
     let (receipt, _, _) = run_cycle(crew, alloc, 0, graph, desk, jobs);
@@ -105,7 +129,7 @@ fn run_once<J: Job + Send + Drop, R: Threads + Wait + Sync, G: Gate + Sync>(
     Some(tally.notes())
 }
 
-/// Returns whether plain memory has a number that was set there. None if memory runs out.
+/// Returns whether a number that was stored in plain memory is there, or None if memory runs out.
 pub fn in_plain_memory(alloc: Global) -> Option<bool> {
     let Ok(mut words) = vec![in alloc; 0u64; 1] else {
         return None;
@@ -115,8 +139,8 @@ pub fn in_plain_memory(alloc: Global) -> Option<bool> {
     Some(bank.get(0).raw() == 7)
 }
 
-/// Runs one cycle of a job for each of `marks`, which share nothing, and returns how many its receipt has. None if
-/// memory runs out, or if there are more than notes may be active.
+// Runs one cycle of a job for each of `marks`, which share no resource, and returns the number of jobs in
+// its receipt. Returns None if memory runs out, or if there are more jobs than notes may be active.
 fn run_marked<R: Threads + Wait + Sync, G: Gate + Sync>(
     alloc: Global,
     crew: &Crew<'_, R, G>,
@@ -131,7 +155,7 @@ fn run_marked<R: Threads + Wait + Sync, G: Gate + Sync>(
     run_over(alloc, crew, &layout, marks)
 }
 
-/// The same over this layout.
+// Does the same with this layout.
 fn run_over<R: Threads + Wait + Sync, G: Gate + Sync>(
     alloc: Global,
     crew: &Crew<'_, R, G>,
@@ -148,9 +172,9 @@ fn run_over<R: Threads + Wait + Sync, G: Gate + Sync>(
     run_once(alloc, crew, layout, jobs)
 }
 
-/// Returns what is seen of one cycle of `jobs` jobs by `workers` workers, at a gate that holds each job until `held`
-/// have come. The crew isn't cut to the number of processors, so it shows the same on any machine. None if memory runs
-/// out, or if there are more jobs than notes may be active.
+/// Returns what is seen of one cycle of `jobs` jobs with `workers` workers, at a gate that holds each job
+/// until `held` jobs have come. The crew isn't limited to the number of processors, so the result is the same
+/// on any machine. Returns None if memory runs out, or if there are more jobs than notes may be active.
 pub fn by_a_crew<R: Threads + Wait + Sync>(
     rt: &R,
     alloc: Global,

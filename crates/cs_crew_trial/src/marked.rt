@@ -1,4 +1,4 @@
-// Jobs that leave a mark when they run, over cells that nobody reads.
+// Jobs that leave a mark when they run, on cells that no code reads.
 ghost use Rattle.std.specs.Prelude.{◌≡◌, length, All, IfOk};
 ghost use Rattle.cs_cells.specs.{Areas.IsFootprint, Areas.IsLaid};
 ghost use Rattle.cs_crew_trial.specs.Marks.{IsOver, marking};
@@ -11,7 +11,8 @@ use std::sync::atomic::{AtomicU64, Ordering};
 /// The number of resources: one for each pair of four notes.
 pub const PLACES: u32 = 6;
 
-/// A job that keeps the time of its run in `mark`, counted from 1; 0 until it runs. Its meaning doesn't know of this.
+/// A job that stores the time of its run in `mark`, counted from 1; 0 until it runs. Its meaning doesn't
+/// include this.
 #[derive(Drop)]
 pub struct Marked<'t> {
     layout: &'t Layout,
@@ -37,8 +38,8 @@ impl<'t> Job for Marked<'t> {
     ghost frames = { marking_frames };
 }
 
-/// Returns a job for each of `marks`; it uses and writes the resources whose bits its entry of `bits` has, 0 if there
-/// is none.
+/// Returns a job for each of `marks`; it uses and writes the resources whose bits are set in its entry of
+/// `bits`, and none without an entry.
 pub fn jobs_of<'t>(
     alloc: Global,
     layout: &'t Layout,
@@ -63,7 +64,7 @@ pub fn jobs_of<'t>(
 }
 
 /// Returns the footprint of a job that uses and writes the resources whose bits are set.
-fn foot_of(alloc: Global, bits: u32) -> Result<Footprint, AllocError>
+pub fn foot_of(alloc: Global, bits: u32) -> Result<Footprint, AllocError>
     ensures { IfOk result (IsFootprint 6) }
 {
     let mut places = Vec::new(alloc);
@@ -78,7 +79,7 @@ fn foot_of(alloc: Global, bits: u32) -> Result<Footprint, AllocError>
     })
 }
 
-/// Returns one resource of one cell for each pair of four notes.
+/// Returns one resource with one cell for each pair of four notes.
 pub fn areas(alloc: Global) -> Result<Vec<Area>, AllocError>
     ensures laid { IfOk result (λ areas. IsLaid areas.items) }
     ensures count { IfOk result (λ areas. length areas.items ≡ 6) }

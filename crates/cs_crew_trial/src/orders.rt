@@ -1,4 +1,5 @@
-// Boards played call by call: all small graphs by every order of two seats' calls, and as many notes as there may be.
+// Boards played call by call: all small graphs with every order of two seats' calls, and a board with the
+// highest number of notes.
 ghost use Rattle.std.specs.Prelude.{◌≡◌, length};
 
 use crate::cycle::{layout, marks_of};
@@ -9,10 +10,11 @@ use cs_cells::Layout;
 use std::alloc::Global;
 use std::sync::atomic::{AtomicU64, Ordering};
 
-/// The pairs of four notes. Each has a resource of its own, where the second waits for the first.
+// The pairs of four notes. Each pair has its own resource, because of which the second note waits for the
+// first.
 const PAIRS: [(usize, usize); PLACES as usize] = [(0, 1), (0, 2), (1, 2), (0, 3), (1, 3), (2, 3)];
 
-/// The time of each note's run, and how often the first seat tried to claim one.
+// The time of each note's run, and the number of the first seat's tries to claim a note.
 #[derive(Drop)]
 struct Played {
     times: Vec<u64>,
@@ -25,8 +27,8 @@ impl Played {
     }
 }
 
-/// Plays notes with these resources by one order of calls. None if not all have run within three calls for each, if
-/// they are more than may be active, or if memory runs out.
+// Plays notes with these resources in one order of calls. Returns None if not all have run within three
+// calls for each, if there are more notes than may be active, or if memory runs out.
 fn play(alloc: Global, layout: &Layout, bits: &[u32], order: u32) -> Option<Played>
     requires { length layout.now ≡ 6 }
 {
@@ -42,7 +44,7 @@ fn play(alloc: Global, layout: &Layout, bits: &[u32], order: u32) -> Option<Play
     }
 }
 
-/// Plays notes that leave these marks. Returns how often the first seat tried to claim one.
+// Plays notes that leave these marks. Returns the number of the first seat's tries to claim a note.
 fn tries_to_mark(
     alloc: Global,
     layout: &Layout,
@@ -72,11 +74,12 @@ fn times_of(alloc: Global, marks: &[AtomicU64]) -> Option<Vec<u64>> {
     Some(times)
 }
 
-/// Returns whether `notes` notes run by one order of calls, each after the notes that it waits for by `pairs`.
+// Returns whether `notes` notes, played in one order of calls, each run after the notes that they wait for
+// by `pairs`.
 fn is_serial(alloc: Global, layout: &Layout, notes: usize, pairs: u32, order: u32) -> bool
     requires { length layout.now ≡ 6 }
 {
-    // The resources of the pairs that each note is in.
+    // The resources of the pairs that contain each note.
     let bits = [
         pairs & 0b00_1011,
         pairs & 0b01_0101,
@@ -100,13 +103,15 @@ fn is_after(played: &Played, pairs: u32) -> bool {
     true
 }
 
-/// Notes, the number of their graphs, and the number of orders of the claims, runs and finishes that they need.
+/// A number of notes, the number of their graphs, and the number of orders of the claims, runs and finishes
+/// that they need.
 pub struct Small {
     pub notes: usize,
     pub graphs: u32,
     pub orders: u32,
 }
 
+/// All graphs of two, three and four notes.
 pub const SMALL: [Small; 3] = [
     Small {
         notes: 2,
@@ -125,7 +130,8 @@ pub const SMALL: [Small; 3] = [
     },
 ];
 
-/// Returns how many of the graphs of so few notes are serial by each order. None if memory runs out.
+/// Returns how many of the graphs of this number of notes are serial in each order, or None if memory runs
+/// out.
 pub fn serial_graphs(alloc: Global, small: &Small) -> Option<u32> {
     let Some(layout) = layout(alloc) else {
         return None;
@@ -151,8 +157,9 @@ fn is_always_serial(alloc: Global, layout: &Layout, small: &Small, pairs: u32) -
     true
 }
 
-/// Plays as many notes as may be active, all with these resources, by the first seat alone. Returns whether they run in
-/// serial order, and whether the seat tries at most twice for each. None if not all run, or if memory runs out.
+/// Plays the highest number of notes that may be active, all with these resources, only with the first seat.
+/// Returns whether they run in serial order, and whether the seat tries at most twice for each. Returns None
+/// if not all run, or if memory runs out.
 pub fn most_notes(alloc: Global, bits: u32) -> Option<(bool, bool)> {
     let Some(layout) = layout(alloc) else {
         return None;

@@ -5,13 +5,14 @@ ghost use Rattle.cs_board.specs.Board.{plan, name, view, IsSeatOf};
 ghost use Rattle.cs_board.specs.Views.{opening_view};
 ghost use Rattle.cs_crew_trial.specs.{Marks.IsOver, Playing.IsPlayer};
 
-use crate::cycle::desk_for;
+use crate::cycle::opened;
 use cs_base::Steps;
 use cs_board::{Board, BoardSeat};
 use cs_cells::{Job, Layout};
 use std::alloc::Global;
 
-/// How far a seat is: it may claim a note, it has claimed one, its note has run, or its last claim returned None.
+/// The state of a seat: it may claim a note, it has claimed one, its note has run, or its last claim returned
+/// None.
 #[derive(Clone, Copy, PartialEq, Eq)]
 pub enum Phase {
     Free,
@@ -20,7 +21,7 @@ pub enum Phase {
     Over,
 }
 
-/// A seat, how far it is, and how often it tried to claim a note.
+/// A seat, its state, and the number of its tries to claim a note.
 #[derive(Drop)]
 pub struct Player<J> {
     seat: BoardSeat<J>,
@@ -29,7 +30,7 @@ pub struct Player<J> {
 }
 
 impl<J: Job> Player<J> {
-    /// Makes the next call.
+    // Makes the seat's next call.
     fn call(&mut self, board: &Board<J>)
         requires { IsPlayer J.means board.now self.old }
         ensures { IsPlayer J.means board.now self.new }
@@ -55,7 +56,7 @@ impl<J: Job> Player<J> {
         }
     }
 
-    /// Makes the next call. If it finds no note to claim, the other seat makes its own.
+    // Makes the seat's next call. If it finds no note to claim, the other seat makes a call.
     fn call_or_pass(&mut self, other: &mut Player<J>, board: &Board<J>)
         requires this { IsPlayer J.means board.now self.old }
         requires other { IsPlayer J.means board.now other.old }
@@ -69,9 +70,10 @@ impl<J: Job> Player<J> {
     }
 }
 
-/// Plays a board to its end by two seats, and returns how often the first seat tried to claim a note. The bits of
-/// `order`, the lowest first, say which seat is called, 1 for the second; a seat that finds no note passes on. None if
-/// a note is left after three calls for each note.
+// Plays a board to its end with two seats, and returns the number of the first seat's tries to claim a note.
+// The bits of `order`, the lowest first, say which seat makes the next call, 1 for the second; a seat that
+// finds no note leaves the call to the other. Returns None if a note is left after three calls for each
+// note.
 fn tries_by<J: Job + Drop>(board: &Board<J>, mut seat: BoardSeat<J>, order: u32) -> Option<u64>
     requires seat { IsSeatOf J.means (plan board.now) (name board.now) seat }
     requires opens { view seat ≡ opening_view (plan board.now) }
@@ -104,7 +106,7 @@ fn tries_by<J: Job + Drop>(board: &Board<J>, mut seat: BoardSeat<J>, order: u32)
     tries
 }
 
-/// Plays these jobs so. None also if memory runs out.
+/// Plays these jobs in one order of calls. Returns None also if memory runs out.
 pub fn tries_of<J: Job + Drop>(
     alloc: Global,
     layout: &Layout,
@@ -114,9 +116,8 @@ pub fn tries_of<J: Job + Drop>(
     requires few { length jobs.items ≤ most_notes }
     requires over { All (IsOver J.means layout.now) jobs.items }
 {
-    let Some((desk, graph)) = desk_for(alloc, layout, &jobs) else {
+    let Some((board, seat)) = opened(alloc, layout, 0, jobs) else {
         return None;
     };
-    let (board, seat) = desk.open(graph, jobs);
     tries_by(&board, seat, order)
 }

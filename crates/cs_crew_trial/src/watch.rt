@@ -1,28 +1,29 @@
-// A gate that sees what workers do.
+// A gate that observes the workers.
 use cs_edge::Gate;
 use std::sync::atomic::{AtomicU64, Ordering};
 use std::thread;
 
-/// How often a job that is held looks for the others; some seconds.
+// The number of times that a job which is held looks for the others; a few seconds.
 const LOOKS: u64 = 10_000_000;
 
-/// What was seen of a cycle.
+/// What was observed of a cycle.
 #[derive(Clone, Copy, Debug)]
 pub struct Seen {
-    /// The calls of the gate, and those that came after the job had run.
+    /// The number of calls of the gate, and the number of calls that came after the job had run.
     pub calls: u64,
     pub late: u64,
-    /// Whether the job that came first saw all others come that it waited for: each was held by its own worker.
+    /// Whether the first job saw all the jobs come that it waited for, so that each was held by a different
+    /// worker.
     pub met: bool,
-    /// The jobs of the receipt, and those that ran.
+    /// The number of jobs in the receipt, and the number of jobs that ran.
     pub jobs: u64,
     pub ran: u64,
 }
 
-/// It counts its calls, and holds each job until `held` have come, or for a while.
+/// A gate that counts its calls, and holds each job until `held` jobs have come, or for a while.
 #[derive(Drop)]
 pub struct Watch<'t> {
-    /// A number for each job, which is no longer 0 once it has run.
+    // A number for each job, which is other than 0 once the job has run.
     marks: &'t [AtomicU64],
     held: u64,
     calls: AtomicU64,
@@ -31,6 +32,7 @@ pub struct Watch<'t> {
 }
 
 impl<'t> Watch<'t> {
+    /// Makes a gate that holds each job until `held` jobs have come.
     pub fn new(marks: &'t [AtomicU64], held: u64) -> Watch<'t> {
         Watch {
             marks,
@@ -41,7 +43,7 @@ impl<'t> Watch<'t> {
         }
     }
 
-    /// Returns what was seen of a cycle whose receipt has `jobs` jobs.
+    /// Returns what was observed of a cycle whose receipt has `jobs` jobs.
     pub fn seen(&self, jobs: u64) -> Seen {
         let mut ran = 0u64;
         for mark in self.marks {

@@ -5,10 +5,10 @@ use crate::page::Page;
 use crate::text::add_piece;
 use std::alloc::Global;
 
-/// The words of a case that has none of its own: the names of its two texts.
+// The arguments of a case that specifies none: the names of its two texts.
 const NAMES: &[u8] = b"a.orc\na.sco\n";
 
-/// What a line of text is added to.
+/// The text to which a line of text is added.
 #[derive(Clone, Copy)]
 pub enum Filling {
     Orchestra,
@@ -16,18 +16,18 @@ pub enum Filling {
     Words,
 }
 
-/// What a line that adds no text says.
+/// What a line that adds no text does.
 #[derive(Clone, Copy)]
 pub enum Command {
     Nothing,
     Begin(Filling),
     Crowd,
     Play,
-    /// Something of the next case alone.
+    /// A setting that holds only for the next case.
     Once,
 }
 
-/// What a line with this first word says.
+/// Returns what a line with this first word does.
 pub fn command_of(word: &str) -> Command {
     match word {
         "" => Command::Nothing,
@@ -41,38 +41,38 @@ pub fn command_of(word: &str) -> Command {
     }
 }
 
-/// What holds for one case alone; a number is 0 where nothing is said.
+/// The settings that hold for one case only; a number is 0 if it isn't set.
 #[derive(Clone, Copy, Default)]
 pub struct Once {
     /// The number of the call that fails.
     pub shelf_fails: u32,
     pub wav_fails: u32,
     pub talk_fails: u32,
-    /// The most bytes that a write takes.
+    /// The highest number of bytes of one write.
     pub wav_room: u32,
     pub talk_room: u32,
     pub has_words: bool,
-    /// The line shows the sound file's bytes, in place of its samples.
+    /// Whether the line shows the sound file's bytes instead of its samples.
     pub hex: bool,
-    /// It shows the calls made on the three objects.
+    /// Whether the line shows the calls made on the three objects.
     pub calls: bool,
-    /// It shows the report of a run that ended Ok.
+    /// Whether the line shows the report of a run that ended Ok.
     pub report: bool,
-    /// The case runs twice on one shelf.
+    /// Whether the case runs twice with one shelf.
     pub twice: bool,
     pub task: Option<Task>,
-    /// The room of a mirror that is told the mix too.
+    /// The capacity of a mirror that receives the mix too; 0 for none.
     pub mirror: u32,
-    /// Samples have three bytes.
+    /// Whether samples have three bytes.
     pub wide: bool,
-    /// The last meter notes its drop, and the line shows each meter's.
+    /// Whether the last meter records its drop, and the line shows each meter's line.
     pub drops: bool,
-    /// The shelf and the sinks are those that never fail and tell no calls.
+    /// Whether the shelf and the sinks never fail and tell no calls.
     pub sure: bool,
 }
 
 impl Once {
-    /// Does what a line says of the case. Returns whether it says such a thing.
+    /// Applies the setting of a line. Returns whether the line has a setting.
     pub fn take(&mut self, word: &str, rest: &str) -> bool {
         let (name, behind) = parted(rest);
         let (first, second) = (number_of(name.as_bytes()), number_of(behind.as_bytes()));
@@ -104,7 +104,7 @@ impl Once {
         true
     }
 
-    /// The gate is to hold `notes` notes at once.
+    /// Sets the gate to hold `notes` notes at the same time.
     pub fn crowd(&mut self, notes: u32) {
         self.meet(0, 0, 1, notes);
     }
@@ -129,18 +129,19 @@ impl Once {
     }
 }
 
-/// Two texts, which stay until others are begun, and what holds for the next case alone.
+/// Two texts, which stay until others are begun, and the settings that hold only for the next case.
 #[derive(Drop)]
 pub struct CaseDesk {
     pub orchestra: Page,
     pub score: Page,
-    /// The words, one a line.
+    /// The arguments, one in each line.
     pub words: Page,
     pub once: Once,
     filling: Filling,
 }
 
 impl CaseDesk {
+    /// Makes a desk with empty texts and no settings.
     pub fn new(alloc: Global) -> CaseDesk {
         CaseDesk {
             orchestra: Page::new(alloc),
@@ -151,7 +152,7 @@ impl CaseDesk {
         }
     }
 
-    /// Begins a new text of this kind, which is what is added to from now on.
+    /// Begins a new text of this kind, to which lines are added from now on.
     pub fn begin(&mut self, filling: Filling) -> &mut Page {
         self.filling = filling;
         if matches!(filling, Filling::Words) {
@@ -170,7 +171,7 @@ impl CaseDesk {
         }
     }
 
-    /// The words of the case, one a line.
+    /// Returns the arguments of the case, one in each line.
     pub fn own_words(&self) -> &[u8] {
         if self.once.has_words {
             self.words.bytes()
@@ -179,23 +180,24 @@ impl CaseDesk {
         }
     }
 
-    /// Whether any number of workers may play the case: it names none itself, and shows nothing of them.
+    /// Returns whether any number of workers may play the case: its arguments name no number, and its line
+    /// shows nothing about workers.
     pub fn is_for_any_crew(&self) -> bool {
         self.once.task.is_none() && !names_a_crew(self.own_words())
     }
 
-    /// What held for the last case alone is forgotten.
+    /// Clears the settings that held only for the last case.
     pub fn forget(&mut self) {
         self.once = Once::default();
     }
 
-    /// Adds to what was begun last.
+    /// Adds a piece of text to the text that was begun last.
     pub fn add(&mut self, piece: CaseText<'_>) {
         add_piece(self.begun(), piece);
     }
 }
 
-// Whether one of these words says by how many workers, or by which.
+// Returns whether one of these arguments names a number or a kind of workers.
 fn names_a_crew(words: &[u8]) -> bool {
     for word in words.split(|byte| *byte == b'\n') {
         if asks_for_workers(word) {

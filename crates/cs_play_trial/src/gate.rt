@@ -1,30 +1,31 @@
-// The gate of a case: it lets notes through at once, or shows what workers do.
+// The gate of a case: it lets notes through immediately, or shows what workers do.
 use cs_edge::Gate;
 use std::sync::atomic::{AtomicU64, Ordering};
 
-/// The most turns that a note is held; fewer where many cycles are tried.
+// The highest number of iterations for which a note is held; fewer if many cycles are tried.
 const LONG: u64 = 1_000_000_000;
 
 const BRIEF: u64 = 4_000_000;
 
-/// In how many cycles the later notes are held longer.
+// The number of cycles in which the later notes are held longer.
 const HELD: u64 = 10;
 
 /// What the gate does.
 #[derive(Clone, Copy)]
 pub enum Task {
     Meeting(Meeting),
-    /// It sums the squares of the numbers of its calls, from 1 on through all notes of all cycles, each with this
-    /// number of notes. So each number must come once, in any order.
+    /// It sums the squares of the numbers of its calls, counted from 1 through all notes of all cycles; each
+    /// cycle has this number of notes. So each number must occur once, in any order.
     Summing(u32),
-    /// It marks a call that isn't the next: each cycle has this number of notes, which must come one by one.
+    /// It records a call that isn't the next one: each cycle has this number of notes, which must come one by
+    /// one.
     Counting(u32),
 }
 
-/// Holds each note from number `note` on, in the cycles from `cycle` on, until `notes` of them have come in its cycle,
-/// or for a while. So notes that run one after another never meet. Once the first of a cycle saw the others come in
-/// `cycles` cycles, no note is held. In the first ten such cycles the later notes are held longer, so that the worker
-/// of the first one has nothing to do meanwhile.
+/// Holds each note from number `note` on, in the cycles from `cycle` on, until `notes` of them have come in
+/// its cycle, or for a while. So notes that run one after another never meet. Once the first note of a cycle
+/// has seen the others come in `cycles` cycles, no note is held. In the first ten such cycles the later notes
+/// are held longer, so that the worker of the first one has nothing to do meanwhile.
 #[derive(Clone, Copy)]
 pub struct Meeting {
     pub note: u32,
@@ -33,11 +34,12 @@ pub struct Meeting {
     pub cycles: u32,
 }
 
+/// The gate of a case.
 #[derive(Drop)]
 pub struct CaseGate {
     task: Option<Task>,
     calls: AtomicU64,
-    /// How many notes have come in a cycle, behind 2^32 times the cycle's number.
+    // 2^32 times the number of a cycle, plus the number of notes that have come in it.
     come: AtomicU64,
     met: AtomicU64,
     squares: AtomicU64,
@@ -45,6 +47,7 @@ pub struct CaseGate {
 }
 
 impl CaseGate {
+    /// Makes a gate with this task, or one that lets all notes through.
     pub fn new(task: Option<Task>) -> CaseGate {
         CaseGate {
             task,
@@ -56,21 +59,22 @@ impl CaseGate {
         }
     }
 
+    /// Returns the number of calls.
     pub fn calls(&self) -> u64 {
         self.calls.load(Ordering::SeqCst)
     }
 
-    /// In how many cycles notes met.
+    /// Returns the number of cycles in which notes met.
     pub fn met(&self) -> u64 {
         self.met.load(Ordering::SeqCst)
     }
 
-    /// The sum of the squares.
+    /// Returns the sum of the squares.
     pub fn summed(&self) -> u64 {
         self.squares.load(Ordering::SeqCst)
     }
 
-    /// Whether each call was the next.
+    /// Returns whether each call was the next one.
     pub fn is_in_order(&self) -> bool {
         self.astray.load(Ordering::SeqCst) == 0
     }
@@ -91,7 +95,7 @@ impl CaseGate {
         }
     }
 
-    // Whether `all` have come within `turns` turns.
+    // Returns whether `all` notes have come within `turns` iterations.
     fn sees(&self, all: u64, turns: u64) -> bool {
         for _ in 0..turns {
             if self.come.load(Ordering::SeqCst) >= all {
@@ -128,7 +132,7 @@ impl Gate for CaseGate {
     }
 }
 
-/// Returns the place of a note among the notes of all cycles, each with `notes` notes.
+// Returns the index of a note among the notes of all cycles, each with `notes` notes.
 fn place_of(cycle: u32, note: u32, notes: u32) -> u64 {
     u64::from(cycle)
         .saturating_mul(u64::from(notes))

@@ -1,6 +1,6 @@
 // The parts of a line of a case file.
 
-/// A text that is added so many times, with or without a line feed behind it.
+/// A text that is added `times` times, with or without a line feed after it.
 #[derive(Clone, Copy)]
 pub struct CaseText<'a> {
     pub times: u32,
@@ -8,7 +8,8 @@ pub struct CaseText<'a> {
     pub feed: bool,
 }
 
-/// The text that a line adds: behind `|` with a line feed, behind `>` without, and behind a number so many times.
+/// Returns the text that a line adds: after `|` with a line feed, after `>` without; a number before the sign
+/// says how many times.
 pub fn text_of(line: &[u8]) -> Option<CaseText<'_>> {
     let digits = line.iter().position(|byte| !byte.is_ascii_digit());
     let (front, rest) = line.split_at(digits.unwrap_or(usize::MAX).min(line.len()));
@@ -19,7 +20,7 @@ pub fn text_of(line: &[u8]) -> Option<CaseText<'_>> {
     }
 }
 
-// One blank behind the sign is left out; no number is once.
+// Skips one blank after the sign; without a number the text is added once.
 fn piece_of<'a>(number: &'a [u8], text: &'a [u8], feed: bool) -> CaseText<'a> {
     let text = match text {
         [b' ', rest @ ..] => rest,
@@ -33,12 +34,12 @@ fn piece_of<'a>(number: &'a [u8], text: &'a [u8], feed: bool) -> CaseText<'a> {
     CaseText { times, text, feed }
 }
 
-/// The first word, and what stands behind its blank.
+/// Returns the first word, and the text after its blank.
 pub fn parted(text: &str) -> (&str, &str) {
     text.split_once(' ').unwrap_or((text, ""))
 }
 
-/// The number that digits are.
+/// Returns the number that digits mean.
 pub fn number_of(digits: &[u8]) -> u32 {
     let mut number = 0u32;
     for digit in digits {

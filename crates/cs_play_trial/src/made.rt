@@ -1,4 +1,4 @@
-// What a run of a case is given.
+// The objects of a run of a case.
 use crate::desk::{CaseDesk, Once};
 use crate::gate::CaseGate;
 use crate::page::Page;
@@ -8,13 +8,14 @@ use std::alloc::Global;
 use std::sync::Arc;
 use std::sync::atomic::AtomicU64;
 
-/// What one run is given besides the shelf, and what it leaves.
+/// The objects of one run besides the shelf, and their state after it.
 #[derive(Drop)]
 pub struct CaseStage {
     pub wav: MemSink,
     pub talk: MemSink,
     pub gate: CaseGate,
-    /// How many meters were dropped, where that is noted, and how many of them before the list of the meters was.
+    /// The number of meters that were dropped, if that is recorded, and how many of them were dropped before
+    /// the list of the meters.
     pub drops: Option<Arc<AtomicU64>>,
     pub early: u64,
     /// The lines of the meters.
@@ -22,6 +23,7 @@ pub struct CaseStage {
 }
 
 impl CaseStage {
+    /// Makes the objects of one run with these settings.
     pub fn new(alloc: Global, once: Once) -> CaseStage {
         let mut told = Page::new(alloc);
         CaseStage {
@@ -35,7 +37,7 @@ impl CaseStage {
     }
 }
 
-/// Adds the words of a case, behind others.
+/// Appends the arguments of a case to others.
 pub fn add_words(words: &mut Vec<String>, front: &[u8], desk: &CaseDesk, out: &mut Page) {
     add_lines(words, front, out);
     if desk.once.wide {
@@ -47,7 +49,7 @@ pub fn add_words(words: &mut Vec<String>, front: &[u8], desk: &CaseDesk, out: &m
     }
 }
 
-// Words, one a line; what isn't UTF-8 is left out.
+// Appends arguments, one in each line; text that isn't UTF-8 is skipped.
 fn add_lines(words: &mut Vec<String>, text: &[u8], out: &mut Page) {
     if let Some(text) = text.strip_suffix(b"\n") {
         for word in text.split(|byte| *byte == b'\n') {
@@ -68,13 +70,13 @@ fn add_word(words: &mut Vec<String>, word: &str, out: &mut Page) {
     }
 }
 
-/// The shelf of a case.
+/// Returns the shelf of a case.
 pub fn shelf_of(alloc: Global, desk: &CaseDesk, out: &mut Page) -> MemShelf {
     let files = files_of(alloc, desk, out);
     MemShelf::new(alloc, files, failing(alloc, desk.once.shelf_fails, out))
 }
 
-/// The two texts of a case, and the file with both, which is written as an orchestra.
+/// Returns the two texts of a case, and the file with both, which is written as an orchestra.
 pub fn files_of(alloc: Global, desk: &CaseDesk, out: &mut Page) -> Files {
     let mut files = Files::new(alloc);
     add_file(alloc, &mut files, "a.orc", &desk.orchestra, out);
@@ -106,13 +108,14 @@ fn file_of(alloc: Global, name: &str, text: &[u8]) -> Option<NamedBytes> {
     }
 }
 
-// A sink whose call number `fails` fails, and which takes at most `room` bytes a write; 0 is no limit.
+// Returns a sink whose call number `fails` fails, and which accepts at most `room` bytes in a write; 0 is no
+// limit.
 fn sink_of(alloc: Global, fails: u32, room: u32, out: &mut Page) -> MemSink {
     let room = if room == 0 { u32::MAX } else { room };
     MemSink::new(alloc, failing(alloc, fails, out), room)
 }
 
-// The one call that fails; 0 is none.
+// Returns the one call that fails; 0 is none.
 fn failing(alloc: Global, call: u32, out: &mut Page) -> Calls {
     let mut calls = Calls::new(alloc);
     if calls.push(u64::from(call)).is_err() {

@@ -1,14 +1,15 @@
-//! Trials of the program. A case is two texts that go through the public call `csplay` over objects in memory; it comes
-//! out as one line, and the crate's `stdout` has the lines that must come. The case files stand in data/, whose
-//! README.md says how a case is written; the words of the program, the crate's `args`, name them in the order in which
-//! they run.
+//! Trials of the program. A case is two texts that go through the public call `csplay` with objects in
+//! memory; its result is one line, and the crate's `stdout` has the expected lines. The case files are in
+//! data/, whose README.md describes how a case is written; the arguments of the program, the crate's `args`,
+//! name them in the order in which they run.
 //!
-//! Nothing is proved of the answers here, only that the trials are safe. Where memory or a file is refused, that is
-//! printed in place of what was to be written.
+//! Nothing is proved about the results here, only that the trials are safe. If memory runs out or a file
+//! can't be read, that is printed instead of the result.
 //!
-//! In reading order: `page` (what is written), `line` (the parts of a line of a case file), `text` (its escapes),
-//! `gate` (what shows how workers run), `desk` (the case that is being made), `made` (what a run of it is given),
-//! `meters` (what they show), `play` (the runs of a case), `show` (its line) and `wave` (the samples in it).
+//! In reading order: `page` (what is written), `line` (the parts of a line of a case file), `text` (its
+//! escapes), `gate` (what shows how workers run), `desk` (the case that is being made), `made` (the objects
+//! of a run), `meters` (their lines), `play` (the runs of a case), `show` (its line) and `wave` (the samples
+//! in it).
 #![tactic(auto)]
 
 mod desk;
@@ -47,7 +48,7 @@ fn show_all<R: Files + Print + AllocGlobal + Threads + Wait + Sync>(
     Ok(())
 }
 
-// Prints what comes of a file's cases.
+// Prints the results of a file's cases.
 fn show_file<R: Files + Print + AllocGlobal + Threads + Wait + Sync>(
     rt: &R,
     name: &str,
@@ -111,7 +112,8 @@ fn obey<R: Files + AllocGlobal + Threads + Wait + Sync>(
     }
 }
 
-// How many of so many notes can be at work at once: no more than there are processors, where the system says that.
+// Returns how many of `notes` notes can be at work at the same time: no more than there are processors, if
+// the system reports their number.
 fn at_once<R: Threads>(rt: &R, notes: u32) -> u32 {
     match thread::available_parallelism(rt) {
         Ok(count) => u32::try_from(count.get()).unwrap_or(notes).min(notes),
@@ -119,7 +121,7 @@ fn at_once<R: Threads>(rt: &R, notes: u32) -> u32 {
     }
 }
 
-// Adds the bytes of a file; no path adds nothing.
+// Appends the bytes of a file; an empty path appends nothing.
 fn add_file<R: Files + AllocGlobal>(rt: &R, path: &str, to: &mut Page) {
     if path.is_empty() {
         return;
@@ -130,7 +132,7 @@ fn add_file<R: Files + AllocGlobal>(rt: &R, path: &str, to: &mut Page) {
     }
 }
 
-// Runs a case and adds its line. A piece that is played is played by other crews too.
+// Runs a case and appends its line. A piece that is played is played with other crews too.
 fn say<R: AllocGlobal + Threads + Wait + Sync>(
     rt: &R,
     name: &str,
@@ -148,7 +150,7 @@ fn say<R: AllocGlobal + Threads + Wait + Sync>(
     }
 }
 
-// Runs the case by a crew, and adds its line where it is another one.
+// Runs the case with a crew, and appends its line if it differs.
 fn say_by<R: AllocGlobal + Threads + Wait + Sync>(
     rt: &R,
     name: &str,

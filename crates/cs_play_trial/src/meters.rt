@@ -1,4 +1,4 @@
-// The meters of a case: what each shows, and one that notes its drop.
+// The meters of a case: the line of each, and one that records its drop.
 ghost use Rattle.std.specs.Prelude.{[], codes, nat_lt, if◌then◌else◌};
 
 use crate::made::CaseStage;
@@ -7,7 +7,7 @@ use std::alloc::Global;
 use std::sync::Arc;
 use std::sync::atomic::{AtomicU64, Ordering};
 
-/// The meter of the peak; none where memory is refused.
+/// Returns the meter of the peak, or None if memory runs out.
 pub fn peak_of(alloc: Global) -> Option<Box<PeakTap>> {
     match Box::new(alloc, PeakTap::new()) {
         Ok(peak) => Some(peak),
@@ -15,7 +15,7 @@ pub fn peak_of(alloc: Global) -> Option<Box<PeakTap>> {
     }
 }
 
-/// A mirror with this room; none for 0, and where memory is refused.
+/// Returns a mirror with this capacity, or None for 0, and if memory runs out.
 pub fn mirror_of(alloc: Global, room: u32) -> Option<Box<MirrorTap>> {
     if room == 0 {
         return None;
@@ -29,7 +29,8 @@ pub fn mirror_of(alloc: Global, room: u32) -> Option<Box<MirrorTap>> {
     }
 }
 
-/// A meter that counts its drop in `drops` of the stage, where that is noted; none too where memory is refused.
+/// Returns a meter that counts its drop in `drops` of the stage, or None if drops aren't recorded, and if
+/// memory runs out.
 pub fn noted_of(alloc: Global, is_noted: bool, stage: &mut CaseStage) -> Option<Box<DropTap>> {
     if !is_noted {
         return None;
@@ -46,7 +47,7 @@ pub fn noted_of(alloc: Global, is_noted: bool, stage: &mut CaseStage) -> Option<
     }
 }
 
-/// A meter that keeps nothing, says `third.`, and counts when it is dropped.
+/// A meter that stores nothing, prints `third.`, and counts when it is dropped.
 pub struct DropTap {
     pub drops: Arc<AtomicU64>,
 }
@@ -74,7 +75,7 @@ impl Tap for DropTap {
     }
 }
 
-/// Adds the lines of meters, in their order, without that of the peak unless the case notes drops.
+/// Appends the lines of meters, in their order; the line of the peak only if the case records drops.
 pub fn add_lines(taps: &[Box<dyn Tap>], with_peak: bool, stage: &mut CaseStage) {
     let mut is_shown = with_peak;
     for tap in taps {
@@ -88,7 +89,7 @@ pub fn add_lines(taps: &[Box<dyn Tap>], with_peak: bool, stage: &mut CaseStage) 
     stage.early = dropped(stage);
 }
 
-// How many meters were dropped; 0 where that isn't noted.
+// Returns the number of meters that were dropped; 0 if that isn't recorded.
 fn dropped(stage: &CaseStage) -> u64 {
     match &stage.drops {
         Some(drops) => drops.load(Ordering::SeqCst),
@@ -96,7 +97,7 @@ fn dropped(stage: &CaseStage) -> u64 {
     }
 }
 
-/// Adds whether a meter was dropped with the vector and not before, where that is noted.
+/// Appends whether a meter was dropped with the vector and not before, if that is recorded.
 pub fn add_drops(stage: &mut CaseStage) {
     if stage.drops.is_none() {
         return;

@@ -10,7 +10,7 @@ use cs_play::csplay;
 use std::sync::Wait;
 use std::thread::Threads;
 
-/// A case under its name, and the words that come before its own, one a line.
+/// A case with its name, and the arguments that come before its own, one in each line.
 #[derive(Clone, Copy)]
 pub struct CaseRun<'a> {
     pub name: &'a str,
@@ -18,7 +18,7 @@ pub struct CaseRun<'a> {
     pub crew: &'a [u8],
 }
 
-/// Runs a case, over one shelf, and writes the line of its last run. Returns the status.
+/// Runs a case with one shelf, and writes the line of its last run. Returns the status.
 pub fn play<R: AllocGlobal + Threads + Wait + Sync>(
     rt: &R,
     case: CaseRun<'_>,
@@ -36,7 +36,7 @@ pub fn play<R: AllocGlobal + Threads + Wait + Sync>(
     status
 }
 
-// One run, on a new stage.
+// Runs a case once, on a new stage.
 fn run<R: AllocGlobal + Threads + Wait + Sync>(
     rt: &R,
     case: CaseRun<'_>,
@@ -52,7 +52,7 @@ fn run<R: AllocGlobal + Threads + Wait + Sync>(
     status
 }
 
-// The list of the meters is made here, since a function that hands such a list out isn't proved.
+// The list of the meters is made here, since a function that returns such a list can't be proved.
 fn metered<R: AllocGlobal + Threads + Wait + Sync>(
     rt: &R,
     desk: &CaseDesk,
@@ -79,7 +79,7 @@ fn metered<R: AllocGlobal + Threads + Wait + Sync>(
     told(rt, desk, words, shelf, stage, &mut taps)
 }
 
-// What the meters of a case show comes to its stage.
+// Moves the lines of the meters of a case to its stage.
 fn told<R: AllocGlobal + Threads + Wait + Sync>(
     rt: &R,
     desk: &CaseDesk,
@@ -118,7 +118,7 @@ fn performed<R: AllocGlobal + Threads + Wait + Sync>(
     .number()
 }
 
-// The same over objects that never fail.
+// Does the same with objects that never fail.
 fn surely<R: AllocGlobal + Threads + Wait + Sync>(
     rt: &R,
     desk: &CaseDesk,

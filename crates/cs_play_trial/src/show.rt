@@ -7,8 +7,8 @@ use crate::play::CaseRun;
 use crate::wave::add_wave;
 use cs_edge::{MemShelf, Move};
 
-/// Writes a case's line: its name, the status, the line on talk (the report where it is asked for), and the sound file
-/// where one was begun.
+/// Writes a case's line: its name, the status, the line on `talk` (the report if it is asked for), and the
+/// sound file if one was opened.
 pub fn add_line(
     out: &mut Page,
     case: CaseRun<'_>,
@@ -35,7 +35,7 @@ pub fn add_line(
     }
 }
 
-// The sound file, where one was begun, and what the gate and the meters show.
+// Appends the sound file if one was opened, and what the gate and the meters show.
 fn add_seen(out: &mut Page, once: &Once, stage: &CaseStage) {
     if !stage.wav.moves().is_empty() {
         add_sound(out, stage.wav.taken(), once.hex);
@@ -51,7 +51,7 @@ fn add_seen(out: &mut Page, once: &Once, stage: &CaseStage) {
     }
 }
 
-// What the gate of a case shows.
+// Appends what the gate of a case shows.
 fn add_gate(out: &mut Page, task: Task, gate: &CaseGate) {
     match task {
         Task::Meeting(_) => {
@@ -73,7 +73,7 @@ fn add_gate(out: &mut Page, task: Task, gate: &CaseGate) {
     }
 }
 
-// What talk has: a last line feed isn't shown, and a line without one is cut.
+// Appends what `talk` has received: without a last line feed, and marked as cut if it has none.
 fn add_talk(out: &mut Page, talk: &[u8]) {
     if talk.is_empty() {
         return;
@@ -98,14 +98,14 @@ fn add_sound(out: &mut Page, wav: &[u8], hex: bool) {
     }
 }
 
-/// Equal calls, one after another.
+// Equal calls, one after another.
 #[derive(Clone, Copy)]
 struct Alike {
     kind: &'static str,
     times: u64,
 }
 
-// The calls made on an object, equal ones together; none is nothing.
+// Appends the calls made on an object, equal ones together; nothing if there are none.
 fn add_calls(out: &mut Page, object: &[u8], moves: &[Move]) {
     if moves.is_empty() {
         return;
@@ -118,8 +118,8 @@ fn add_calls(out: &mut Page, object: &[u8], moves: &[Move]) {
     add_alike(out, alike);
 }
 
-// Adds those before a call where it is another, and returns how often it came. A begin is written at once, with its
-// name.
+// Appends the calls before `made` if it is a different one, and returns the calls to go on with. A begin is
+// written immediately, with its name.
 fn add_call(out: &mut Page, before: Alike, made: &Move) -> Alike {
     let kind = match made {
         Move::Read => " read",

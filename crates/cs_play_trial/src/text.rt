@@ -1,18 +1,18 @@
-// The escapes in a text: behind a grave accent stand two hexadecimal digits, which are a byte, or `#`, the number of
-// the time that the text is added.
+// The escapes in a text: a grave accent is followed by two hexadecimal digits, which are a byte, or by `#`,
+// the number of the time that the text is added.
 use crate::line::CaseText;
 use crate::page::Page;
 
-/// How far an escape is read.
+// How far an escape has been read.
 #[derive(Clone, Copy)]
 enum Escape {
     None,
     Begun,
-    /// Its first digit.
+    // Its first digit was read.
     Digit(u8),
 }
 
-/// Adds a text so many times.
+/// Appends a text as many times as it says.
 pub fn add_piece(to: &mut Page, piece: CaseText<'_>) {
     for number in 0..piece.times {
         add_text(to, piece.text, number.saturating_add(1));
@@ -29,7 +29,7 @@ fn add_text(to: &mut Page, text: &[u8], number: u32) {
     }
 }
 
-// Adds what a byte is behind this much of an escape, and answers how far an escape is read behind it.
+// Appends the byte that an escape yields, and returns how far the escape has been read after it.
 fn add_byte(to: &mut Page, escape: Escape, byte: u8, number: u32) -> Escape {
     match (escape, byte) {
         (Escape::None, b'`') => return Escape::Begun,

@@ -1,22 +1,22 @@
 // The samples of a sound file, as runs of equal frames.
 use crate::page::Page;
 
-/// Behind so many runs only their number and a sum of the file follow.
+// After this many runs of equal frames, only the number of runs and a checksum of the file are printed.
 const MOST_RUNS: u64 = 20;
 
-/// The length of the header.
+// The length of the header in bytes.
 const HEADER: usize = 44;
 
-/// How the frames of a file are laid out.
+// How the frames of a file are laid out.
 #[derive(Clone, Copy)]
 struct Layout {
-    /// The bytes of a sample.
+    // The number of bytes of a sample.
     width: usize,
-    /// The bytes of a frame.
+    // The number of bytes of a frame.
     frame: usize,
 }
 
-/// Writes a file's rate, its bytes, and its samples.
+/// Writes a file's sample rate, its length in bytes, and its samples.
 pub fn add_wave(out: &mut Page, wav: &[u8]) {
     if wav.len() >= HEADER {
         out.add(b", sr ");
@@ -42,7 +42,7 @@ fn layout_of(wav: &[u8]) -> Layout {
     }
 }
 
-// A number of so many bytes at a place, the lowest byte first.
+// Returns a number of `width` bytes at an offset, the lowest byte first.
 fn number_at(bytes: &[u8], at: usize, width: usize) -> u64 {
     let mut number = 0u64;
     for place in (0..width).rev() {
@@ -52,7 +52,7 @@ fn number_at(bytes: &[u8], at: usize, width: usize) -> u64 {
     number
 }
 
-// Writes the first runs, and answers how many there are.
+// Writes the first runs, and returns their number.
 fn add_runs(out: &mut Page, samples: &[u8], layout: Layout) -> u64 {
     let mut last: &[u8] = &[];
     let mut times = 0u64;
@@ -82,7 +82,7 @@ fn add_run(out: &mut Page, frame: &[u8], times: u64, run: u64, layout: Layout) {
     add_frame(out, frame, layout);
 }
 
-// The values of a frame's channels, in order.
+// Writes the values of a frame's channels, in order.
 fn add_frame(out: &mut Page, frame: &[u8], layout: Layout) {
     let mut is_first = true;
     for sample in frame.chunks(layout.width.max(1)) {
@@ -101,7 +101,7 @@ fn add_value(out: &mut Page, value: i64) {
     out.add_number(value.unsigned_abs());
 }
 
-// A sample of two or three bytes.
+// Returns the value of a sample of two or three bytes.
 fn value_of(sample: &[u8]) -> i64 {
     match sample {
         [low, high] => i64::from(i16::from_le_bytes([*low, *high])),
@@ -110,7 +110,7 @@ fn value_of(sample: &[u8]) -> i64 {
     }
 }
 
-// Where not all runs are shown: how many there are, and the Adler-32 sum of the file.
+// Writes, if not all runs are shown, how many there are, and the Adler-32 checksum of the file.
 fn add_rest(out: &mut Page, runs: u64, wav: &[u8]) {
     if runs <= MOST_RUNS {
         return;
