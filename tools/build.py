@@ -4,13 +4,15 @@ Sources that passed the gate (proved.txt has their sums and this kit's logic) ar
 the program must pass tests/program. Other sources are proved: the crates below csplay side by side, as many at
 once as there are processors and 4 GB of memory each, then csplay itself.
 
-What was built is told by crates/csplay/out/play.stamp: a sum over the sources of csplay and all below it, taken
-before the build, a sum over the program, the line of `rt version`, and how it was built. Two that find it stale build
-once: the second waits."""
+crates/csplay/out/play.stamp says what was built: a sum over the sources of csplay and all below it, taken before the
+build, a sum over the program, the line of `rt version`, how it was built, and a mark of this machine and of the stamp's
+inode. A stamp with another mark was made elsewhere, or is a copy: then csplay is built again, and so it is if git tracks
+anything that a build leaves, which is deleted first. Two that find it stale build once: the second waits."""
 import contextlib
 import fcntl
 import os
 import re
+import shutil
 import signal
 import subprocess
 import sys
@@ -51,12 +53,44 @@ def how_built():
         return it.read().split("\n")[3]
 
 
+def is_made_here():
+    """Whether the stamp that lies here was made here; also if there is none."""
+    try:
+        with open(STAMP, encoding="utf-8", errors="replace") as it:
+            return it.read().split("\n")[4:5] == [current.mark(os.fstat(it.fileno()).st_ino)]
+    except FileNotFoundError:
+        return True
+
+
+def tracked():
+    """The folders of builds in which git tracks a file: a clone brought them."""
+    words = ["git", "-C", TOP, "ls-files", "-z", "--", "crates/*/out/*"]
+    try:
+        ran = subprocess.run(words, stdin=subprocess.DEVNULL, capture_output=True, text=True, errors="surrogateescape")
+    except OSError:
+        return []
+    return sorted({"/".join(it.split("/")[:3]) for it in ran.stdout.split("\0") if it})
+
+
+def forget_what_was_brought():
+    """Deletes the builds that a clone brought, and says so; says it too if the stamp was made elsewhere."""
+    brought = tracked()
+    for it in brought:
+        tell(f"git tracks files in {it}, which a build leaves: the folder is deleted")
+        shutil.rmtree(f"{TOP}/{it}", ignore_errors=True)
+    if not brought and not is_made_here():
+        tell("the program in crates/csplay/out was built elsewhere, or copied, so it is built again")
+
+
 def is_current(found, version, is_to_be_proved):
-    """Whether the program is that of these sums and this kit. One that was built by the record is so only while the
-    record stands for these sources."""
+    """Whether the program is that of these sums and this kit, and was built here. One that was built by the record is
+    so only while the record stands for these sources. Without a toolchain one that was built elsewhere counts too,
+    unless it is to be proved."""
     try:
         with open(STAMP, encoding="utf-8") as it:
             of_sources, of_program, by, how = it.read().split("\n")[:4]
+        if not is_made_here() and (version or is_to_be_proved):
+            return False
         is_same = of_sources == sums.sum_of_all(found) and version in ("", by)
         if not is_same or not is_built() or sums.sum_of(PROGRAM) != of_program:
             return False
@@ -69,7 +103,8 @@ def stamp(found, version, how):
     """Tells of what the program was built, if the sources are still those that were summed before."""
     if found == sums.sums_of(TOP, sums.crates_listed(TOP)):
         with open(f"{STAMP}.new", "w", encoding="utf-8") as it:
-            it.write(f"{sums.sum_of_all(found)}\n{sums.sum_of(PROGRAM)}\n{version}\n{how}\n")
+            mark = current.mark(os.fstat(it.fileno()).st_ino)
+            it.write(f"{sums.sum_of_all(found)}\n{sums.sum_of(PROGRAM)}\n{version}\n{how}\n{mark}\n")
         os.replace(f"{STAMP}.new", STAMP)
 
 
@@ -232,6 +267,9 @@ def build(version, is_to_be_proved):
         if is_current(found, version, is_to_be_proved):
             return True
         why_not = sums.objection(TOP, found, version)
+        if not is_to_be_proved and sums.recorded(TOP)[1] and sums.other_logic(TOP, version):
+            tell(f"{why_not}: install the kit that README names, or prove csplay with this one by ./play --prove")
+            return False
         if why_not and not is_to_be_proved:
             tell(f"{why_not}; so the sources are proved")
         is_quick = not why_not and not is_to_be_proved and builds_by_record(found, version)
@@ -253,8 +291,11 @@ def make_current(is_to_be_proved):
             current.note(how_built(), seen, latest)
         return True
     if not version:
-        tell(f"csplay isn't {'proved' if is_to_be_proved else 'built'} from these sources, and there is no rt to do it")
+        done = "proved" if is_to_be_proved else "built"
+        what = f"csplay isn't {done} from these sources, and there is no rt to do it"
+        tell(f"{what}: install the Rattle kit that README names, and put its folder bin into PATH")
         return False
+    forget_what_was_brought()
     os.makedirs(OUT, exist_ok=True)
     with open(f"{OUT}/play.lock", "w", encoding="ascii") as lock:
         try:

@@ -2,16 +2,34 @@
 sums over them take half a second.
 
 play.seen, beside the program, has the size and time of each source, of the lists, of the program, its stamp and the
-kit's rt as they were when the sums of all were right. Where one differs, the sums decide again (build.py)."""
+kit's rt as they were when the sums of all were right. If one differs, the sums decide again (build.py). Both it and the
+stamp carry what no clone can bring: the machine's id, and numbers of files on its disk."""
+import hashlib
 import os
 import time
 
 TOP = os.path.dirname(os.path.dirname(os.path.realpath(__file__)))
-OUT = f"{TOP}/crates/csplay/out"
+# A copy that `--install` made has no sources and no list of crates; its program is in bin.
+IS_INSTALLED = not os.path.exists(f"{TOP}/crates.txt")
+OUT = os.path.realpath(f"{TOP}/../../bin") if IS_INSTALLED else f"{TOP}/crates/csplay/out"
 PROGRAM, STAMP, SEEN = f"{OUT}/csplay", f"{OUT}/play.stamp", f"{OUT}/play.seen"
 PARTS = ("src", "specs", "proofs")
 # A file that was changed within this many nanoseconds may change again at the same time by its clock.
 YOUNG = 10**9
+
+
+def machine():
+    """The id of this machine, or its name if it has no id."""
+    try:
+        with open("/etc/machine-id", encoding="ascii") as it:
+            return it.read().strip() or os.uname().nodename
+    except (OSError, ValueError):
+        return os.uname().nodename
+
+
+def mark(inode):
+    """What a file of this inode, made here, is marked with."""
+    return hashlib.sha256(f"{machine()} {inode}".encode(errors="surrogateescape")).hexdigest()
 
 
 def kit():
@@ -39,12 +57,12 @@ def sources():
 
 
 def look():
-    """A line for each file with its size and time, in the order of their names, and the time of the latest source."""
-    lines, latest = [], 0
+    """A line for each file with its size, time and inode, in the order of their names, and the time of the latest source."""
+    lines, latest = [f"machine {machine()}\n"], 0
     for it in [*sources(), f"{TOP}/crates.txt", f"{TOP}/proved.txt", PROGRAM, STAMP, *kit()]:
         try:
             found = os.stat(it)
-            lines.append(f"{it} {found.st_size} {found.st_mtime_ns} {found.st_mode}\n")
+            lines.append(f"{it} {found.st_size} {found.st_mtime_ns} {found.st_mode} {found.st_ino}\n")
             latest = max(latest, found.st_mtime_ns)
         except FileNotFoundError:
             lines.append(f"{it} none\n")

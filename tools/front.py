@@ -1,10 +1,10 @@
-"""What `play` prints and does by words of its own alone: its help, its version, and a copy of the program elsewhere."""
+"""What `play` does with one of its own options and no piece: help, version, manual, and a copy of the program
+elsewhere."""
 import os
-import shutil
+import signal
 import sys
 
 import current
-import manual
 import pages
 import perform
 
@@ -20,6 +20,9 @@ def state():
     """The lines that say of what the program was built: those of `--version`, and of the file beside a copy."""
     import sums
 
+    if current.IS_INSTALLED:
+        with open(f"{current.PROGRAM}.version", encoding="utf-8") as it:
+            return it.read().splitlines()
     lines = [f"{NAME} {version()}"]
     try:
         with open(current.STAMP, encoding="utf-8") as it:
@@ -38,44 +41,47 @@ def usage():
     text = pages.page("LANGUAGE").replace("`", "")
     options = text.partition("\n| words | what they ask for |\n")[2].partition("\n\n")[0]
     ends = text.partition("\n| number | status | cause | what is left |\n")[2].partition("\n\n")[0]
-    lines = ["csplay's words:", ""]
-    lines += [f"  {it[0]:<14} {it[1]}" for it in map(pages.cells, options.split("\n")[1:])]
-    lines += ["", "statuses:", ""]
-    lines += [f"  {it[0]:<3} {it[1]:<13} {it[2]}; {it[3]}" for it in map(pages.cells, ends.split("\n")[1:])]
-    lines += ["", "pages: docs/LANGUAGE.md (what a text may say), docs/CSOUND.md (if you know Csound), docs/SERVERS.md"]
-    return lines
+    lines = ["csplay's options:", ""]
+    for it in map(pages.cells, options.split("\n")[1:]):
+        lines += wrapped(f"  {it[0]:<14} ", it[1])
+    lines += ["", "exit statuses:", ""]
+    for it in map(pages.cells, ends.split("\n")[1:]):
+        lines += wrapped(f"  {it[0]:<3} {it[1]:<13} ", f"{it[2]}; {it[3]}")
+    lines += ["", "pages: docs/FIRST.md (a first lesson), docs/manual (each opcode), docs/LANGUAGE.md (the language),"]
+    return [*lines, "docs/CSOUND.md (if you know Csound), docs/SERVERS.md (many runs)"]
 
 
-def copy(to, text, mode=0o644):
-    os.makedirs(os.path.dirname(to), exist_ok=True)
-    with open(f"{to}.new", "wb") as it:
-        it.write(text)
-    os.chmod(f"{to}.new", mode)
-    os.replace(f"{to}.new", to)
+def wrapped(head, text):
+    """Lines of at most 118 columns that begin with this head."""
+    import textwrap
+
+    return textwrap.wrap(text, 118, initial_indent=head, subsequent_indent=" " * len(head), break_on_hyphens=False)
 
 
 def install(folder):
-    """Copies the program and what is read about it below a folder, which is made where it isn't there."""
-    with open(current.PROGRAM, "rb") as it:
-        copy(f"{folder}/bin/{NAME}", it.read(), 0o755)
-    copy(f"{folder}/bin/{NAME}.version", "".join(f"{it}\n" for it in state()).encode())
-    for it in ("LANGUAGE", "CSOUND", "SERVERS", "MEANING"):
-        copy(f"{folder}/share/doc/{NAME}/{it}.md", pages.page(it).encode())
-    shutil.copytree(f"{current.TOP}/examples", f"{folder}/share/doc/{NAME}/examples", dirs_exist_ok=True)
-    copy(f"{folder}/share/man/man1/{NAME}.1", manual.made(version()).encode())
-    with open(f"{current.TOP}/tools/completion.bash", "rb") as it:
-        copy(f"{folder}/share/bash-completion/completions/{NAME}", it.read())
-    print(f"{folder}/bin/{NAME}, {NAME}.version beside it, {folder}/share/doc/{NAME}, man page and completions")
+    """Copies the program and all that is read about it below a folder, which is made if it isn't there."""
+    import install as installation
+
+    installation.make(folder, current.PROGRAM, version(), state())
+    own, site = f"{folder}/{installation.OWN}", f"{folder}/{installation.SITE}"
+    print(f"{folder}/bin/{NAME}, and {NAME}-play, which shows hints; {site}/index.html, the manual; {own}/examples")
 
 
 def do(words, is_ready, help_text):
-    """Does what one of play's words asks for alone; returns the status."""
-    if words[0] == "--help":
-        print("\n".join([help_text.strip(), "", *usage()]))
+    """Does what one of play's options asks for; returns the status."""
+    if words[0] in ("--help", "--version"):
+        # `head`, which reads only the first lines, ends this without a word.
+        signal.signal(signal.SIGPIPE, signal.SIG_DFL)
+        print("\n".join([help_text.strip(), "", *usage()] if words[0] == "--help" else state()))
         return 0
-    if words[0] == "--version":
-        print("\n".join(state()))
-        return 0
+    try:
+        if words[0] == "--manual":
+            import lookup
+
+            return lookup.do(words[1:], is_ready)
+    except OSError as error:
+        perform.tell(error)
+        return 1
     if len(words) != 2 or not words[1]:
         print("usage: ./play --install DIR", file=sys.stderr)
         return 2

@@ -12,6 +12,8 @@ def names_in(words):
             names.append(word)
         elif word == "--demo":
             options["demo"] = next(rest, "")
+        elif word.startswith("--demo="):
+            options["demo"] = word.partition("=")[2]
         elif not word.startswith("--"):
             flags = re.match(r"[^jo]*", word)[0]
             options.update(dict.fromkeys(flags[1:], ""))
@@ -41,3 +43,37 @@ def without(words, letters):
         elif left != "-":
             kept.append(left)
     return kept
+
+
+LONG = ("--prove", "--check", "--listen", "--picture", "--help", "--version", "--manual", "--install")
+LONG += ("--turns", "--pool", "--demo")
+SHORT = "joWsdn3"
+ALIAS = {"--output": "-o", "--out": "-o", "--threads": "-j", "--jobs": "-j", "--workers": "-j", "--quiet": "-n"}
+
+
+def misspelt(words):
+    """Of an option that isn't there, or lacks its value, as a sentence; none where all are right."""
+    import difflib
+
+    for at, word in enumerate(words):
+        if word == "--":
+            return []
+        if word in ("-o", "-j", "--demo") and at + 1 == len(words):
+            needs = {"-o": "a name, as `-o my.wav`", "-j": "a number from 1 to 32, as `-j 4`"}
+            return [f"`{word}` needs {needs.get(word, 'a number of notes, as `--demo 10`')}."]
+        name = word.partition("=")[0]
+        if name == "--format":
+            return [
+                "`--format=gcc` must come before csplay's words, with `--check`: ./play --check --format=gcc ORC SCO"
+            ]
+        if name.startswith("--") and name not in LONG:
+            like = ALIAS.get(name) or next(iter(difflib.get_close_matches(name, LONG, 1, 0.6)), None)
+            return [f"There is no option `{name}`." + (f" Did you mean `{like}`?" if like else "")]
+        if word.startswith("-") and word != "-" and not name.startswith("--"):
+            flags = re.match(r"[^jo]*", word)[0][1:]
+            other = next((it for it in flags if it not in SHORT), None)
+            if other:
+                like = f"-{word}"
+                like = like if like in LONG else next(iter(difflib.get_close_matches(like, LONG, 1, 0.8)), None)
+                return [f"There is no option `-{other}`." + (f" Did you mean `{like}`?" if like else "")]
+    return []

@@ -5,6 +5,8 @@ import re
 import pages
 
 COMMENT = re.compile(r'/\*.*?(?:\*/|\Z)|(?:;|//)[^\n]*|("[^"\n]*")', re.S)
+COMPARISONS = ("<", ">", "<=", ">=", "==", "!=")
+JOINS = ("&&", "||")
 
 
 def without_comments(text):
@@ -13,17 +15,32 @@ def without_comments(text):
 
 
 class Orchestra:
-    """An orchestra's lines from `first` on, numbered as its file is."""
+    """An orchestra's lines from `first` on, numbered as its file is. A statement whose lines are joined by `\\` has its
+    tokens in its first line, and none in the others."""
 
     def __init__(self, text, first=1):
-        self.lines = {
-            at: pages.tokens(re.sub(r'"[^"]*"', '"', line))
-            for at, line in enumerate(without_comments(text).split("\n"), first)
-        }
+        self.first, self.plains = first, without_comments(text).split("\n")
+        self.lines, self.begins = {}, {}
+        begin, before = first, ""
+        for at, line in enumerate(self.plains, first):
+            begin = begin if before else at
+            self.lines[at], self.begins[at] = [], begin
+            is_joined = line.rstrip().endswith("\\")
+            before += line.rstrip()[:-1] + " " if is_joined else line
+            if not is_joined:
+                self.lines[begin], before = pages.tokens(re.sub(r'"[^"]*"', '"', before)), ""
         self.defined = {it[1]: at for at, it in self.lines.items() if it[:1] == ["opcode"] and len(it) > 1}
-        self.instruments = [
-            int(word) for it in self.lines.values() if it[:1] == ["instr"] for word in it[1:] if word.isdigit()
-        ]
+        self.instruments = {
+            int(word): at
+            for at, it in reversed(self.lines.items())
+            if it[:1] == ["instr"]
+            for word in it[1:]
+            if word.isdigit()
+        }
+
+    def plain(self, line):
+        """The line without its comments."""
+        return self.plains[line - self.first] if 0 <= line - self.first < len(self.plains) else ""
 
     def known(self, word):
         return word in pages.opcodes() or word in self.defined
@@ -45,6 +62,12 @@ class Orchestra:
             return at + 1 if is_result or at and words[at + 1] else 0
         return 0
 
+    def word_of(self, line):
+        """The opcode of a line; empty where it has none."""
+        found = self.lines.get(line, [])
+        at = self.opcode_of(found)
+        return found[at] if at is not None and at < len(found) else ""
+
     def lacking(self, at):
         """The words and signs of a line that csplay lacks, functions with their bracket."""
         found = self.lines.get(at, [])
@@ -54,13 +77,15 @@ class Orchestra:
         for at, it in enumerate(found):
             follows = found[at + 1] if at + 1 < len(found) else ""
             is_word = re.match(r"[A-Za-z_]", it)
+            if at == place and self.known(it):
+                continue
             if is_word and follows == "(" and it not in pages.FUNCTIONS | pages.keywords():
                 lacks.append(it if at == place else f"{it}(")
             elif is_word and follows == ":" and found[at + 3 : at + 4] == ["("]:
                 lacks.append(f"{it}(")
             elif it in pages.outside() or at == place and not self.known(it):
                 lacks.append(it)
-            elif it in ("^", "#", "$", "~", "&", "<<", ">>", "[", "{", "}"):
+            elif it in ("^", "#", "~", "&", "<<", ">>", "[", "{", "}") or it == "$" and not follows:
                 lacks.append(it)
         return lacks
 
@@ -74,13 +99,29 @@ class Orchestra:
         return found
 
     def body_of(self, line):
-        """The lines of the instrument or definition around a line."""
+        """The lines of the instrument or definition around a line; outside of these the lines between two of them."""
+        heads = {at: (self.lines[at] + [""])[0] for at in self.lines}
         first = last = line
-        while first > min(self.lines) and self.lines[first][:1] not in (["instr"], ["opcode"]):
+        while first > self.first and heads[first] not in ("instr", "opcode"):
+            if heads[first - 1] in ("endin", "endop"):
+                break
             first -= 1
-        while last < max(self.lines) and self.lines[last][:1] not in (["endin"], ["endop"]):
+        is_inside = heads.get(first) in ("instr", "opcode")
+        while last < max(self.lines) and heads[last] not in ("endin", "endop"):
+            if not is_inside and heads[last + 1] in ("instr", "opcode"):
+                break
             last += 1
         return range(first, last + 1)
+
+    def open_ifs(self, line):
+        """The lines of each `if` of this body that isn't ended before a line."""
+        opened = []
+        for at in self.body_of(line):
+            head = (self.lines[at] + [""])[0]
+            if at >= line:
+                break
+            opened = opened + [at] if head == "if" else opened[:-1] if head == "endif" else opened
+        return opened
 
     def is_inside(self, line):
         return any(self.lines[at][:1] in (["instr"], ["opcode"]) for at in self.body_of(line) if at <= line)
@@ -99,26 +140,19 @@ class Orchestra:
                     names.setdefault(it, at)
         return names
 
+    def begins_with(self, name, line):
+        """Whether a control variable has a value as the note begins: of `init`, an input or shared."""
+        if name.startswith("g"):
+            return True
+        body = [self.lines[at] for at in self.body_of(line) if at < line]
+        return any(name in it[: self.opcode_of(it) or 1] and ("init" in it[:2] or it[-1:] == ["xin"]) for it in body)
+
     def has(self, word):
         return any(word in it for it in self.lines.values())
 
-    def tables(self):
-        """The numbers of tables that are written out in calls, with the first line of each."""
-        found = {}
-        for at, it in self.lines.items():
-            place = self.opcode_of(it)
-            word = it[place] if place is not None and place < len(it) else ""
-            call = pages.opcodes().get(word, "")
-            if "ifn" in call:
-                which = re.findall(r"\w+", call)[1:].index("ifn")
-                given = arguments(it[place + 1 :])
-                if which < len(given) and len(given[which]) == 1 and given[which][0].isdigit():
-                    found.setdefault(int(given[which][0]), at)
-        return found
-
 
 def arguments(found):
-    """The tokens of each argument, parted by the commas outside brackets."""
+    """The tokens of each argument, split at the commas outside brackets."""
     parts, depth = [[]], 0
     for it in found:
         depth += (it == "(") - (it == ")")
@@ -126,4 +160,4 @@ def arguments(found):
             parts.append([])
         else:
             parts[-1].append(it)
-    return parts
+    return parts if parts != [[]] else []

@@ -1,8 +1,10 @@
-"""What the pages say, for the hints of `play`: rows of docs/LANGUAGE.md and docs/CSOUND.md, and the words of the
-profile. Where a page is missing, nothing is found."""
+"""What the documents say, for the hints of `play`: rows of docs/LANGUAGE.md and docs/CSOUND.md, the calls of the
+manual's pages, and the words of the profile. If a page is missing, nothing is found."""
 import functools
 import os
 import re
+
+import entries
 
 DOCS = f"{os.path.dirname(os.path.dirname(os.path.realpath(__file__)))}/docs"
 # Words, numbers, signs of two and three bytes, and single signs of a line of either text.
@@ -48,12 +50,19 @@ def listed(before, after="\n\n"):
     return set(re.findall(r"[\w]+", " ".join(re.findall(r"`([^`]*)`", text))))
 
 
-@functools.cache
 def opcodes():
-    """The call of each opcode of the profile, as its row writes it, by its name."""
-    text = page("LANGUAGE").partition("\n## Opcodes\n")[2].partition("\n**Notes from notes.**")[0]
-    calls = re.findall(r"(?m)^\| `((\w+)[^`]*)` \|", text)
-    return {name: call for call, name in calls}
+    """The call of each opcode of the profile, as its page in the manual writes it, by its name."""
+    return entries.calls()
+
+
+def results(word):
+    """The rates that the result of an opcode may have; none if it has no result."""
+    return entries.results(word)
+
+
+def place(word):
+    """Where an opcode is explained."""
+    return f"docs/manual/{word}.md"
 
 
 @functools.cache

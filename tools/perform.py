@@ -8,7 +8,7 @@ import sys
 import time
 
 # The words of `play` that stand before csplay's.
-OWN = ("--prove", "--check", "--listen", "--picture")
+OWN = ("--prove", "--check", "--listen", "--picture", "--format=gcc")
 # The signals that end a program which does nothing about them: those that are sent to this one end what it started.
 ENDING = [getattr(signal, f"SIG{it}") for it in "TERM INT HUP QUIT ALRM USR1 USR2".split()]
 DIES_WITH_PARENT = 1
@@ -21,11 +21,27 @@ TALK_FAULT = 9
 FAILED = 70
 
 
+def printable(text):
+    """A text without characters that a terminal acts upon; `\ufffd` stands for each."""
+    return "".join(it if it.isprintable() else "\ufffd" for it in str(text).replace("\t", " "))
+
+
 def say(*lines):
     """Says something on standard error, where that is open."""
     if lines and sys.stderr is not None:
         with contextlib.suppress(OSError, ValueError):
-            print(*lines, sep="\n", file=sys.stderr, flush=True)
+            print(*map(printable, lines), sep="\n", file=sys.stderr, flush=True)
+
+
+def show(text):
+    """Writes a text to standard output, and returns the status of a process for that: of a success, or of a failure."""
+    data = text.encode(errors="surrogateescape")
+    try:
+        while data:
+            data = data[os.write(1, data) :]
+        return 0
+    except OSError:
+        return TALK_FAULT << 8
 
 
 def tell(text):
@@ -56,14 +72,15 @@ def die_with_parent():
 
 
 class Progress:
-    """A line on a terminal that tells how much of a sound file is written; None of it before PATIENCE seconds."""
+    """A line on a terminal with the part of the sound file that is written, or with the seconds spent if no file is
+    written. It begins after PATIENCE seconds, and is erased before anything else is printed."""
 
-    def __init__(self, file):
+    def __init__(self, file, is_silent):
         self.file, self.began, self.is_told = file, time.time(), False
-        self.is_wanted = file is not None and sys.stderr is not None and sys.stderr.isatty()
+        self.is_wanted = not is_silent and sys.stderr is not None and sys.stderr.isatty()
 
     def part(self):
-        """The part that is written, of a whole that the file's header tells; None where there is no such file."""
+        """The part that is written, by the length in the file's header; None if there is no such file."""
         try:
             with open(self.file, "rb") as it:
                 found, head = os.fstat(it.fileno()), it.read(HEADER)
@@ -73,17 +90,26 @@ class Progress:
         except OSError:
             return None
 
+    def text(self, spent):
+        """What is told after these seconds; empty if nothing is known."""
+        if self.file is None:
+            return f"performing for {int(spent)} s"
+        part = self.part()
+        left = spent * (1 - part) / part if part else 0
+        return f"{int(100 * part)} % of {self.file}, about {int(left) + 1} s left" if part else ""
+
     def step(self):
         spent = time.time() - self.began
-        part = self.part() if self.is_wanted and spent >= PATIENCE else None
-        if part:
-            left = spent * (1 - part) / part
-            self.write(f"\rplay: {int(100 * part)} % of {self.file}, some {int(left) + 1} s left\x1b[K")
+        text = self.text(spent) if self.is_wanted and spent >= PATIENCE else ""
+        if text:
+            self.write(f"\rplay: {printable(text)}\x1b[K")
             self.is_told = True
 
     def end(self):
+        """Erases the line; none is told after that."""
         if self.is_told:
             self.write("\r\x1b[K")
+        self.is_wanted = self.is_told = False
 
     @staticmethod
     def write(text):
@@ -93,7 +119,7 @@ class Progress:
 
 
 class Talk:
-    """What comes from a pipe is written to standard output at once, and its last bytes are kept."""
+    """What comes from a pipe is written to standard output at once, and its first bytes are kept."""
 
     def __init__(self, pipe, is_silent):
         self.pipe, self.is_silent, self.kept, self.has_failed = pipe, is_silent, b"", False
@@ -101,7 +127,7 @@ class Talk:
     def take(self):
         """Passes on what there is; False at the end, and where it can't be written."""
         came = os.read(self.pipe, WHOLE)
-        self.kept = (self.kept + came)[-KEPT:]
+        self.kept = (self.kept + came)[:KEPT]
         if not came or self.is_silent:
             return bool(came)
         try:
@@ -142,15 +168,19 @@ def beside(program, words, file=None, is_silent=False):
     the sound file, of which progress is told. What can't be written is status 9, as the program has it."""
     reads, writes = os.pipe() if is_open(1) else (None, None)
     child = start(program, words, writes)
-    talk, progress = Talk(reads, is_silent), Progress(file)
+    talk, progress = Talk(reads, is_silent), Progress(file, is_silent)
     if reads is not None:
         os.close(writes)
         waits = select.poll()
         waits.register(reads)
-        while not waits.poll(STEP * 1000) or talk.take():
-            progress.step()
+        while True:
+            if not waits.poll(STEP * 1000):
+                progress.step()
+                continue
+            progress.end()
+            if not talk.take():
+                break
         os.close(reads)
-        progress.end()
     # The child's number is its own until it is waited for, so no signal reaches another process.
     os.waitid(os.P_PID, child, os.WEXITED | os.WNOWAIT)
     meet_signals_with(signal.SIG_DFL)

@@ -85,13 +85,19 @@ def recorded(top):
     return logic, sums
 
 
+def other_logic(top, version):
+    """Why the record is of another logic than this kit's; None if it isn't, or if the kit says nothing."""
+    logic, _ = recorded(top)
+    return f"{RECORD} is of {logic}, and this kit says {version}" if version and logic_of(version) != logic else None
+
+
 def objection(top, sums, version):
-    """Why the record doesn't stand for these sources and this kit's logic; None where it does. A kit that says nothing
-    is not asked for its logic."""
-    logic, of_record = recorded(top)
+    """Why the record doesn't stand for these sources and this kit's logic; None if it does. A kit that says nothing is
+    not asked for its logic."""
+    _, of_record = recorded(top)
     if not of_record:
         return f"{RECORD} isn't there, or can't be read"
-    if version and logic_of(version) != logic:
-        return f"{RECORD} is of {logic}, and this kit says {version}"
+    if other_logic(top, version):
+        return other_logic(top, version)
     others = [it for it in {**sums, **of_record} if sums.get(it) != of_record.get(it)]
     return f"{RECORD} was made of other sources: {' '.join(others)}" if others else None
