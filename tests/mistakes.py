@@ -7,13 +7,16 @@ SCO = "f1 0 8192 10 1 // i1 0 1 9000 440"
 
 
 class Mistake:
-    """A case: its name, its files by their names, the words of the call, what csplay says, what the hint has."""
+    """A case: its name, its files by their names, the words of the call, what csplay says, what its hint must have and
+    what it mustn't. `is_silent` is a case of which no hint may come."""
 
     def __init__(self, block):
         found = [line.partition(" ")[::2] for line in block.split("\n")]
         given = dict(found)
         self.name, self.says = given["case"], given["says"].split(" // ") if "says" in given else None
         self.hints = [text for key, text in found if key == "hint"]
+        self.nots = [text for key, text in found if key == "not"]
+        self.is_silent = ("no", "hint") in found
         self.files = {f"t.{it}": content(given[it]) for it in ("orc", "sco", "csd") if it in given}
         self.files = {"t.orc": content(ORC), "t.sco": content(SCO), **self.files}
         names = ["t.csd"] if "csd" in given else ["t.orc", "t.sco"]
