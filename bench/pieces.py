@@ -174,6 +174,36 @@ def on_busses(notes=2000):
     return orc, f"f1 0 4096 10 1\n{lines}i99 0 {notes * 0.002 + 0.8:.3f}\ne\n"
 
 
+def mixed(seconds=10, voices=30):
+    """Held voices that add to two busses, and a mixer: a chain, the commonest form of a piece."""
+    orc = "sr = 44100\nksmps = 32\nnchnls = 2\nga1 init 0\nga2 init 0\ninstr 1\na1 oscili p4, p5, 1\n"
+    orc += "ga1 += a1 * .5\nga2 += a1 * .25\nendin\ninstr 99\nouts ga1, ga2\nga1 = 0\nga2 = 0\nendin\n"
+    notes = "".join(f"i1 0 {seconds} 900 {110 + 11 * n}\n" for n in range(voices))
+    return orc, f"f1 0 4096 10 1\n{notes}i99 0 {seconds}\ne\n"
+
+
+def grains(seconds=2, each_second=1000):
+    """Notes of a tenth of a second over two busses, and a mixer."""
+    orc, _ = mixed()
+    notes = "".join(f"i1 {n / each_second:.4f} .1 300 {110 + n % 500}\n" for n in range(int(seconds * each_second)))
+    return orc, f"f1 0 4096 10 1\n{notes}i99 0 {seconds + 0.1:.1f}\ne\n"
+
+
+def zones(cycles=1200, notes=500):
+    """Notes that may touch 2,000 zones, `notes` of them at once at last, of which one begins in each cycle."""
+    orc = "sr = 32000\nksmps = 64\nnchnls = 1\nzakinit 1000, 1000\ninstr 1\nzkw p4, p4\na1 zar p4\nendin\ninstr 2\n"
+    orc += "".join(f"zkw 1, {n}\nzaw a1, {n}\n" for n in range(0, 1000, 2)).join(("a1 = 1\n", "endin\n"))
+    lines = (f"i1 {n * 0.002:.3f} {notes * 0.002:.3f} {n % 1000}\n" for n in range(cycles))
+    return orc, "".join(lines) + "e\n"
+
+
+def wide(seconds=1, notes=512, names=1):
+    """Notes that only set one of `names` globals, in long cycles of 16 channels: row sums would take most memory."""
+    orc = "sr = 44100\nksmps = 4096\nnchnls = 16\n" + "".join(f"gk{n} init 0\n" for n in range(names))
+    orc += "".join(f"instr {n + 1}\ngk{n} = 1\nendin\n" for n in range(names))
+    return orc, "".join(f"i{1 + n % names} 0 {seconds}\n" for n in range(notes)) + "e\n"
+
+
 HELD = (("silence", 0), ("one voice", 1), ("4 voices", 4), ("16 voices", 16))
 LONG = {
     "demo, 64 notes": demo(64),
@@ -187,6 +217,16 @@ LONG = {
     "500 notes at once, none changes, 5 s": steady(),
     "2,000 notes of 8 instruments on 8 busses, 400 at once, 4.8 s": on_busses(),
     **{f"{name}, stereo, ksmps {ksmps}, 600 s": held(voices, ksmps) for name, voices in HELD for ksmps in (10, 64)},
+}
+# What several workers can do little for: a piece of a size, and its size.
+WORKERS = {
+    "30 held voices over two busses, and a mixer": (mixed, 2),
+    "grains of .1 s, 1,000 a second, over two busses": (grains, 0.5),
+    "500 notes that may touch 2,000 zones, one begins in each cycle": (zones, 700),
+    "512 notes that set one global, ksmps 4096, 16 channels": (wide, 1),
+    "512 notes that set 128 globals, ksmps 4096, 16 channels": (lambda it: wide(it, names=128), 1),
+    "500 notes at once, none changes": (lambda it: steady(500, it), 0.2),
+    "4 held voices, ksmps 10": (lambda it: held(4, 10, it), 2),
 }
 SHORT = {
     "stereo": small_stereo(),

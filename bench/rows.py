@@ -3,10 +3,14 @@ of them: for bench/otherwise."""
 import os
 import re
 
+import pages
+
 ROWS = f"{os.path.dirname(os.path.realpath(__file__))}/otherwise.txt"
 # The keys of a row that may stand once; all others may stand several times.
 ONCE = "in kind note lead out within loud plays near what text there wide quiet count show".split()
 BOUND = 2
+# Words of forms that are no opcode: names, and words between others.
+NO_OPCODES = "sig dur xamp freq more or for".split()
 
 
 class Row(dict):
@@ -67,25 +71,59 @@ def shown_forms(row):
 
 
 def bound(row):
+    if "near" in row:
+        return " (sounds different)"
     if "within" in row and float(row.one("within")) > BOUND:
         return f" (within {row.one('within')} %)"
     return f" (as loud within {row.one('loud')} %)" if "loud" in row else ""
 
 
 def instead(row):
-    """What to write in place of a form."""
+    """What to write instead of a form."""
     code = row.one("show") or " // ".join(row.all("here"))
-    lead, note = row.one("lead", ""), row.one("note", "")
-    if "near" in row:
-        lead = f"nearest, {lead}" if lead else "nearest:"
     text = ", ".join(map(span, code.split(" // "))) if code else ""
     if row.all("above"):
         text += f", with {' and '.join(map(span, row.all('above')))} before"
     if row.all("table"):
         text += f", and {' and '.join(map(span, row.all('table')))} in the score"
-    text = f"{lead} {text}".strip() + bound(row)
-    joined = " " if note.startswith(("of `", "over ", "(", "as ", "with ", "by ", "for ")) else "; "
-    return text + (joined if text and note else "") + note
+    text, note = f"{row.one('lead', '')} {text}".strip(), row.one("note", "")
+    if text and note.startswith(("of `", "with ", "as ", "for ")):
+        joined, _, note = note.partition("; ")
+        text += f" {joined}"
+    text += bound(row)
+    return text + ("; " if text and note else "") + note
+
+
+def called(shown):
+    """Csound's opcodes and functions in a form that csplay refuses, as the page shows it: those that head a line, and
+    those before a bracket."""
+    words = shown.split(", ")
+    before_bracket = re.findall(r"[A-Za-z_]\w+(?=(?::[aik])?\()", shown)
+    if all(re.fullmatch(r"[A-Za-z_]\w+", it) for it in words):
+        return words, before_bracket
+    rest = re.sub(r"^(?:g?[aikS](?:\d*|[A-Z]\w*)(?:\[\])?(?:, | |$))+", "", shown)
+    opcode = re.match(r"[A-Za-z_]\w+(?= (?!=)|$)", rest)
+    return [opcode[0]] if opcode else [], before_bracket
+
+
+def index():
+    """Csound's opcodes and functions that csplay refuses, by letter, each with a link to its table in the page."""
+    known = {*pages.opcodes(), *pages.keywords(), *pages.FUNCTIONS, *pages.headers(), *NO_OPCODES}
+    heads, places = {}, {}
+    for name, found in rows():
+        place, title = (it.strip() for it in name.split(":", 1))
+        link = re.sub(r"[^\w ]", "", title).lower().replace(" ", "-")
+        shown = [it for row in found if "hidden" not in row for it in shown_forms(row)]
+        for it in shown if place == "orchestra" else []:
+            for group, words in zip((heads, places), called(it)):
+                for word in words:
+                    group.setdefault(word, link)
+    lines = {}
+    for word, link in sorted({**places, **heads}.items(), key=lambda it: it[0].lower()):
+        if word not in known:
+            lines.setdefault(word[0].lower(), []).append(f"[`{word}`](#{link})")
+    found = [f"| {letter} | {' '.join(words)} |" for letter, words in lines.items()]
+    return "\n".join(["| letter | opcodes and functions |", "|---|---|", *found])
 
 
 def cells(row):
@@ -109,9 +147,10 @@ def tables():
             made[place] = ["\n".join(f"- {it.one('what')}" for it in shown)]
             continue
         forms = shown[0].is_refused()
-        head = ["written", "here"] if forms else ["what", "written", "here", "in Csound"]
+        head = ["in Csound", "write instead"] if forms else ["what", "written", "csplay", "Csound"]
         lines = [f"| {' | '.join(head)} |", f"|{'---|' * len(head)}"]
         lines += [f"| {' | '.join(cells(it))} |" for it in shown]
         heading = f"#### {title}\n\n" if forms and title else ""
         made.setdefault(place, []).append(heading + "\n".join(lines))
+    made["index"] = [index()]
     return {place: "\n\n".join(it) + "\n" for place, it in made.items()}
