@@ -21,4 +21,5 @@ instr 50
   kright zkr 2
   outs aleft * kleft, aright * kright
   zacl 1, 2
+  zkcl 1, 2
 endin
